@@ -1,15 +1,18 @@
 -- The layouts of all kinds know of no layer.
-use Rattle.std.specs.Prelude.{◌≡◌, ◌≢◌, ℕ, zero, suc, ◌≤◌, refl}
-use Rattle.std.proofs.Common.{inl, inr, arith}
+use Rattle.std.specs.Prelude.{◌≡◌, ◌≢◌, ℕ, zero, suc, ◌≤◌, true, refl}
+use Rattle.std.proofs.Common.{ap, ◌∙◌, inl, inr, arith}
 use Rattle.k42_kinds.specs.declared.operation.KindName.{KindName}
 use Rattle.k42_kinds.specs.declared.operation.LayoutName.TheVariants as layouts
-use Rattle.k42_kinds.specs.declared.operation.Op.TheVariants.{Seen}
+use Rattle.k42_kinds.specs.declared.operation.Op.{Op}
+use Rattle.k42_kinds.specs.declared.operation.Op.TheVariants.{Add, Get, Drain, Bind, Find, Unbind, Size, Write, Read, Dirty, Clean, Seen}
 use Rattle.k42_kinds.specs.declared.operation.Reply.TheVariants.{Gone}
 use Rattle.k42_kinds.specs.declared.states.AnyState.{AnyState}
 use Rattle.k42_kinds.specs.declared.states.AnyState.TheVariants as states
 use Rattle.k42_kinds.specs.declared.entry.To.{To}
 use Rattle.k42_kinds.specs.declared.entry.To.TheVariants as tos
 use Rattle.k42_kinds.specs.Objects.{plain_object, state_after, reply_of}
+use Rattle.k42_kinds.specs.Operations.{takes_operation}
+use Rattle.k42_kinds.specs.Watched.{is_seen, seen_asking}
 use Rattle.k42_watch.specs.Bare.{TakesNoSeen, KeepsState, AsksByTag}
 use Rattle.co_any.specs.Layouts.{act_of}
 
@@ -25,8 +28,26 @@ asked_gone (states.Directory names) = refl
 asked_gone (states.Pages pages) = refl
 asked_gone states.Dead = refl
 
-pub any_takes_no_seen : (kind : KindName) → TakesNoSeen (plain_object kind)
-any_takes_no_seen kind = record { takes = refl; after = asked_left; reply = asked_gone }
+only_seen : (op : Op) → is_seen op ≡ true → op ≡ Seen
+only_seen (Add amount) is = cc
+only_seen Get is = cc
+only_seen Drain is = cc
+only_seen (Bind key number) is = cc
+only_seen (Find key) is = cc
+only_seen (Unbind key) is = cc
+only_seen Size is = cc
+only_seen (Write page text) is = cc
+only_seen (Read page) is = cc
+only_seen Dirty is = cc
+only_seen Clean is = cc
+only_seen Seen is = refl
+
+pub any_takes_no_seen : (kind : KindName) → TakesNoSeen seen_asking (plain_object kind)
+any_takes_no_seen kind = record {
+  takes = λ op is. ap (takes_operation kind) (only_seen op is);
+  after = λ op is state. ap (λ asked. state_after state asked) (only_seen op is) ∙ asked_left state;
+  reply = λ op is state. ap (λ asked. reply_of state asked) (only_seen op is) ∙ asked_gone state;
+}
 
 keeps_to : (kind : KindName) (state : AnyState) (to : To) → to ≢ tos.Dead → (plain_object kind).swapped state to ≡ state
 keeps_to kind state (tos.Layout layout) live = refl

@@ -6,9 +6,11 @@ use Rattle.k42_kinds.specs.declared.operation.KindName.{KindName}
 use Rattle.k42_kinds.specs.declared.operation.KindName.TheVariants as kinds
 use Rattle.k42_kinds.specs.declared.operation.LayoutName.{LayoutName}
 use Rattle.k42_kinds.specs.declared.operation.LayoutName.TheVariants as layouts
+use Rattle.k42_kinds.specs.declared.operation.Reply.{Reply}
 use Rattle.k42_kinds.specs.declared.operation.Reply.TheVariants.{Gone}
 use Rattle.k42_kinds.specs.declared.states.AnyState.{AnyState}
 use Rattle.k42_kinds.specs.declared.states.AnyState.TheVariants as states
+use Rattle.k42_kinds.specs.declared.operation.Op.{Op}
 use Rattle.k42_kinds.specs.declared.entry.Act.{Act}
 use Rattle.k42_kinds.specs.declared.entry.Act.TheVariants.{Swap}
 use Rattle.k42_kinds.specs.declared.entry.To.TheVariants as tos
@@ -78,7 +80,7 @@ abbrev pub IsDeadRow : ℕ → List AnyPart → Type 0
 IsDeadRow procs row = row ≡ parts.Dead ∷ []
 
 -- every operation is told so there
-abbrev pub dead : Ways AnyState AnyPart
+abbrev pub dead : Ways AnyState AnyPart Op Reply
 dead = record {
   reach = λ procs op proc. One 0;
   empty = λ procs cell. parts.Dead;
@@ -90,7 +92,7 @@ dead = record {
   imported = λ procs state. parts.Dead ∷ [];
 }
 
-abbrev pub ways_of : KindName → ℕ → Ways AnyState AnyPart
+abbrev pub ways_of : KindName → ℕ → Ways AnyState AnyPart Op Reply
 ways_of kinds.Counter zero = lifted amounts counters.shared
 ways_of kinds.Directory zero = lifted indexed directories.shared
 ways_of kinds.Pages zero = lifted pages one_map.shared
@@ -124,7 +126,7 @@ abbrev pub admitted_of : ℕ → AnyState → AnyState
 admitted_of (suc (suc more)) state = states.Dead
 admitted_of live state = state
 
-abbrev pub act_of : ℕ → Act
+abbrev pub act_of : ℕ → Act Op
 act_of zero = Swap (tos.Layout layouts.Shared)
 act_of (suc zero) = Swap (tos.Layout layouts.Spread)
 act_of (suc (suc more)) = Swap tos.Dead

@@ -15,7 +15,7 @@ use Rattle.co_any.specs.Lifting.{Standing, lifted, LiftedWhole}
 
 -- the object of all kinds does in a state that stands there what the layout's own does
 pub record Follows
-    {S P : Type 0} (standing : Standing S P) (any : OneThread AnyState) (one : OneThread S)
+    {S P : Type 0} (standing : Standing S P) (any : OneThread AnyState Op Reply) (one : OneThread S Op Reply)
     : Type 0 where
   pub start : any.start ≡ standing.state_of one.start
   pub after : (state : S) (op : Op) → any.after (standing.state_of state) op ≡ standing.state_of (one.after state op)
@@ -46,7 +46,7 @@ module _ {S P : Type 0} (standing : Standing S P) (back : (part : P) → standin
     whole = subst (Whole procs) (sym (map-own own)) whole;
   }
 
-  module _ (any : OneThread AnyState) (one : OneThread S) (follows : Follows standing any one) (ways : Ways S P) (Whole : ℕ → List P → Type 0) (procs : ℕ) where
+  module _ (any : OneThread AnyState Op Reply) (one : OneThread S Op Reply) (follows : Follows standing any one) (ways : Ways S P Op Reply) (Whole : ℕ → List P → Type 0) (procs : ℕ) where
     lifted_step_one : (parts : List AnyPart) (op : Op) (cell : ℕ) → LiftedWhole standing Whole procs parts → StepsRow one ways (Whole procs) (map standing.own_part parts) op (One cell) → StepsRow any (lifted standing ways) (LiftedWhole standing Whole procs) parts op (One cell)
     lifted_step_one parts op cell whole steps =
         let own = map standing.own_part parts in

@@ -3,6 +3,8 @@ use Rattle.std.specs.Prelude.{◌≡◌, ℕ, List, map}
 use Rattle.k42_kinds.specs.declared.states.AnyState.{AnyState}
 use Rattle.k42_kinds.specs.Rows.{Ways}
 use Rattle.co_any.specs.declared.part.AnyPart.{AnyPart}
+use Rattle.k42_kinds.specs.declared.operation.Op.{Op}
+use Rattle.k42_kinds.specs.declared.operation.Reply.{Reply}
 
 -- where the states and the parts of one layout stand, and what is its own of any
 pub record Standing (S P : Type 0) : Type 0 where
@@ -12,7 +14,7 @@ pub record Standing (S P : Type 0) : Type 0 where
   pub own_part : AnyPart → P
 
 -- what the layout does with its parts, where they stand among those of all
-abbrev pub lifted : {S P : Type 0} → Standing S P → Ways S P → Ways AnyState AnyPart
+abbrev pub lifted : {S P : Type 0} → Standing S P → Ways S P Op Reply → Ways AnyState AnyPart Op Reply
 lifted standing ways = record {
   reach = ways.reach;
   empty = λ procs cell. standing.part_of (ways.empty procs cell);

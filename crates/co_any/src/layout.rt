@@ -3,6 +3,7 @@ ghost use Rattle.std.specs.Prelude.{◌≡◌, ◌≤◌, nat_le, IsTrue, IfOk};
 ghost use Rattle.k42_kinds.specs.Objects.{plain_object};
 ghost use Rattle.co_any.specs.Layouts.{ways_of, whole_of, serves_of, admitted_of, act_of, tag_named};
 ghost use Rattle.co_any.specs.AnyLaws.{any_steps, any_steps_all, any_reaches, any_stands, any_begins, any_imports, any_ends, any_admits, any_swaps, any_asks, any_agrees};
+ghost use Rattle.k42_kinds.specs.Watched.{seen_asking};
 ghost use Rattle.co_any.specs.BareLaws.{any_takes_no_seen, any_keeps_state, any_asks_by_tag};
 
 use crate::exports::{collected, total};
@@ -12,8 +13,8 @@ use co_counter::{SharedCounter, SpreadCounter};
 use co_directory::{SharedDirectory, SpreadDirectory};
 use co_pages::{SharedPages, SpreadPages};
 use k42_kinds::{
-    Act, AnyState, Kind, KindName, Layout, LayoutName, Op, Plain, Reach, Reply, To, step_counter,
-    step_directory, step_pages,
+    Act, AnyState, Kind, KindName, Layout, LayoutName, Op, Plain, Reach, Reply, To, is_seen,
+    step_counter, step_directory, step_pages, told,
 };
 use k42_memory::Memory;
 use k42_watch::Bare;
@@ -42,6 +43,10 @@ impl AnyLayout {
 
 impl Kind for AnyLayout {
     type State = AnyState;
+
+    type Op = Op;
+
+    type Reply = Reply;
 
     ghost object = { λ layout. plain_object layout.kind };
 
@@ -179,7 +184,7 @@ impl Layout for AnyLayout {
         if self.tag == 2 { AnyState::Dead } else { state }
     }
 
-    fn act(&self) -> Act {
+    fn act(&self) -> Act<Op> {
         match self.tag {
             0 => Act::Swap(To::Layout(LayoutName::Shared)),
             1 => Act::Swap(To::Layout(LayoutName::Spread)),
@@ -211,6 +216,16 @@ impl Layout for AnyLayout {
 }
 
 impl Bare for AnyLayout {
+    ghost asking = { seen_asking };
+
+    fn asks_count(op: &Op) -> bool {
+        is_seen(op)
+    }
+
+    fn tell_count(dead: bool, seen: Option<u64>) -> Reply {
+        told(dead, seen)
+    }
+
     fn has_ended(&self, state: &AnyState) -> bool {
         matches!(state, AnyState::Dead)
     }

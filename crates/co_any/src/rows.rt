@@ -4,7 +4,7 @@ ghost use Rattle.k42_kinds.specs.LayoutLaws.{IsWholeRow};
 
 use crate::own::Own;
 use crate::part::AnyPart;
-use k42_kinds::{Layout, Op, Reply};
+use k42_kinds::Layout;
 use k42_memory::Memory;
 use std::alloc::Global;
 use std::mem::replace;
@@ -50,8 +50,8 @@ pub(crate) fn step_own<L: Layout>(
     layout: &L,
     alloc: Global,
     parts: &mut Vec<AnyPart>,
-    op: &Op,
-) -> Result<Reply, Memory>
+    op: &L::Op,
+) -> Result<L::Reply, Memory>
 where
     L::Part: Own,
     requires known { L.tag_of layout.now ≤ 2 }

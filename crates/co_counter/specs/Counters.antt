@@ -2,6 +2,7 @@
 use Rattle.std.specs.Prelude.{◌≡◌, ℕ, zero, suc, ◌%◌, ◌^◌, ◌<◌, List, [], ◌∷◌, length, replicate, sum}
 use Rattle.k42_kinds.specs.declared.operation.Op.{Op}
 use Rattle.k42_kinds.specs.declared.operation.Op.TheVariants.{Add, Drain}
+use Rattle.k42_kinds.specs.declared.operation.Reply.{Reply}
 use Rattle.k42_kinds.specs.declared.entry.Reach.{Reach}
 use Rattle.k42_kinds.specs.declared.entry.Reach.TheVariants.{One, All}
 use Rattle.k42_kinds.specs.Objects.{counter_after, counter_reply}
@@ -20,7 +21,7 @@ abbrev pub value_of : List ℕ → ℕ
 value_of [] = 0
 value_of (value ∷ values) = value
 
-abbrev pub shared : Ways ℕ ℕ
+abbrev pub shared : Ways ℕ ℕ Op Reply
 shared = record {
   reach = λ procs op proc. One 0;
   empty = λ procs cell. 0;
@@ -55,7 +56,7 @@ abbrev pub first_amount : ℕ → ℕ → List ℕ
 first_amount zero value = []
 first_amount (suc others) value = value ∷ replicate others 0
 
-abbrev pub spread : Ways ℕ ℕ
+abbrev pub spread : Ways ℕ ℕ Op Reply
 spread = record {
   reach = spread_reach;
   empty = λ procs cell. 0;

@@ -19,6 +19,10 @@ pub struct SharedCounter;
 impl Kind for SharedCounter {
     type State = u64;
 
+    type Op = Op;
+
+    type Reply = Reply;
+
     ghost object = { λ _. counter_object };
 
     fn empty(&self, _alloc: Global) -> u64 {
@@ -86,7 +90,7 @@ impl Layout for SharedCounter {
         state
     }
 
-    fn act(&self) -> Act {
+    fn act(&self) -> Act<Op> {
         Act::Swap(To::Layout(LayoutName::Shared))
     }
 

@@ -18,6 +18,10 @@ pub struct SpreadCounter;
 impl Kind for SpreadCounter {
     type State = u64;
 
+    type Op = Op;
+
+    type Reply = Reply;
+
     ghost object = { λ _. counter_object };
 
     fn empty(&self, _alloc: Global) -> u64 {
@@ -109,7 +113,7 @@ impl Layout for SpreadCounter {
         state
     }
 
-    fn act(&self) -> Act {
+    fn act(&self) -> Act<Op> {
         Act::Swap(To::Layout(LayoutName::Spread))
     }
 

@@ -3,6 +3,7 @@ use Rattle.std.specs.Prelude.{◌≡◌, ℕ, List, [], ◌∷◌, map, length, 
 use Rattle.std.specs.FinMap as finite
 use Rattle.k42_kinds.specs.declared.operation.Op.{Op}
 use Rattle.k42_kinds.specs.declared.operation.Op.TheVariants.{Find, Size}
+use Rattle.k42_kinds.specs.declared.operation.Reply.{Reply}
 use Rattle.k42_kinds.specs.declared.entry.Reach.{Reach}
 use Rattle.k42_kinds.specs.declared.entry.Reach.TheVariants.{One, All}
 use Rattle.k42_kinds.specs.Objects.{Directory, directory_after, directory_reply}
@@ -17,7 +18,7 @@ first_map (names ∷ others) = names
 abbrev pub IsOneMap : ℕ → List Directory → Type 0
 IsOneMap procs maps = length maps ≡ 1
 
-abbrev pub shared : Ways Directory Directory
+abbrev pub shared : Ways Directory Directory Op Reply
 shared = record {
   reach = λ procs op proc. One 0;
   empty = λ procs cell. finite.empty;
@@ -39,7 +40,7 @@ spread_reach procs (Find key) proc = One proc
 spread_reach procs Size proc = One proc
 spread_reach procs _ proc = All
 
-abbrev pub spread : Ways Directory Directory
+abbrev pub spread : Ways Directory Directory Op Reply
 spread = record {
   reach = spread_reach;
   empty = λ procs cell. finite.empty;

@@ -22,6 +22,10 @@ pub struct SharedDirectory;
 impl Kind for SharedDirectory {
     type State = DirectoryState;
 
+    type Op = Op;
+
+    type Reply = Reply;
+
     ghost object = { λ _. directory_object };
 
     fn empty(&self, alloc: Global) -> DirectoryState {
@@ -102,7 +106,7 @@ impl Layout for SharedDirectory {
         state
     }
 
-    fn act(&self) -> Act {
+    fn act(&self) -> Act<Op> {
         Act::Swap(To::Layout(LayoutName::Shared))
     }
 

@@ -22,6 +22,10 @@ pub struct SpreadDirectory;
 impl Kind for SpreadDirectory {
     type State = DirectoryState;
 
+    type Op = Op;
+
+    type Reply = Reply;
+
     ghost object = { λ _. directory_object };
 
     fn empty(&self, alloc: Global) -> DirectoryState {
@@ -124,7 +128,7 @@ impl Layout for SpreadDirectory {
         state
     }
 
-    fn act(&self) -> Act {
+    fn act(&self) -> Act<Op> {
         Act::Swap(To::Layout(LayoutName::Spread))
     }
 

@@ -1,6 +1,8 @@
 -- Pages kept as one map, which all processors use.
 use Rattle.std.specs.Prelude.{ℕ, List, [], ◌∷◌}
 use Rattle.std.specs.FinMap as finite
+use Rattle.k42_kinds.specs.declared.operation.Op.{Op}
+use Rattle.k42_kinds.specs.declared.operation.Reply.{Reply}
 use Rattle.k42_kinds.specs.declared.entry.Reach.TheVariants.{One}
 use Rattle.k42_kinds.specs.Objects.{Pages, pages_after, pages_reply}
 use Rattle.k42_kinds.specs.Rows.{Ways, changed_at}
@@ -18,7 +20,7 @@ abbrev pub map_of : List Pages → Pages
 map_of [] = finite.empty
 map_of (pages ∷ others) = pages
 
-abbrev pub shared : Ways Pages Pages
+abbrev pub shared : Ways Pages Pages Op Reply
 shared = record {
   reach = λ procs op proc. One 0;
   empty = λ procs cell. finite.empty;

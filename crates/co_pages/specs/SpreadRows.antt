@@ -74,7 +74,7 @@ row_reply row Dirty = Number (dirty_of row)
 row_reply row Clean = Number (dirty_of row)
 row_reply row _ = Gone
 
-abbrev pub spread : Ways Pages CellPlaces
+abbrev pub spread : Ways Pages CellPlaces Op Reply
 spread = record {
   reach = spread_reach;
   empty = no_places;

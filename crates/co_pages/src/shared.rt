@@ -19,6 +19,10 @@ pub struct SharedPages;
 impl Kind for SharedPages {
     type State = PagesState;
 
+    type Op = Op;
+
+    type Reply = Reply;
+
     ghost object = { λ _. pages_object };
 
     fn empty(&self, alloc: Global) -> PagesState {
@@ -107,7 +111,7 @@ impl Layout for SharedPages {
         state
     }
 
-    fn act(&self) -> Act {
+    fn act(&self) -> Act<Op> {
         Act::Swap(To::Layout(LayoutName::Shared))
     }
 

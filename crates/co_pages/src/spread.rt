@@ -26,6 +26,10 @@ pub struct SpreadPages;
 impl Kind for SpreadPages {
     type State = PagesState;
 
+    type Op = Op;
+
+    type Reply = Reply;
+
     ghost object = { λ _. pages_object };
 
     fn empty(&self, alloc: Global) -> PagesState {
@@ -195,7 +199,7 @@ impl Layout for SpreadPages {
         state
     }
 
-    fn act(&self) -> Act {
+    fn act(&self) -> Act<Op> {
         Act::Swap(To::Layout(LayoutName::Spread))
     }
 

@@ -23,7 +23,7 @@ const LINES: [[u32; 3]; 2] = [[5, 6, 7], [9, 10, 11]];
 #[derive(Drop)]
 struct Turn {
     caller: u32,
-    act: Act,
+    act: Act<Op>,
 }
 
 impl Work for Turn {
@@ -67,14 +67,14 @@ fn turns() -> [Turn; 6] {
 }
 
 impl Turn {
-    fn of(caller: u32, act: Act) -> Turn {
+    fn of(caller: u32, act: Act<Op>) -> Turn {
         Turn { caller, act }
     }
 }
 
 /// An entry as a line of a record.
 #[derive(Drop)]
-struct Line(Entry);
+struct Line(Entry<Op, Reply>);
 
 impl Line {
     /// The number of the script's line that it answers.

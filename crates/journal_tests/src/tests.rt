@@ -11,7 +11,12 @@ use std::alloc::Global;
 use std::process::Abort;
 
 /// A caller's log: of each entry its stamp, which rises, its object and its cell.
-fn log_of(rt: &impl Abort, alloc: Global, caller: u32, entries: &[(u64, u32, u32)]) -> Log
+fn log_of(
+    rt: &impl Abort,
+    alloc: Global,
+    caller: u32,
+    entries: &[(u64, u32, u32)],
+) -> Log<Op, Reply>
     requires few { length entries.now ≤ 100 }
     ensures list { IsListOf caller result.entries }
     ensures few { length result.entries ≤ 100 }
@@ -38,7 +43,7 @@ fn log_of(rt: &impl Abort, alloc: Global, caller: u32, entries: &[(u64, u32, u32
 }
 
 /// The logs of four callers, each with such entries.
-fn logs_of(rt: &impl Abort, alloc: Global, callers: &[&[(u64, u32, u32)]; 4]) -> Vec<Log>
+fn logs_of(rt: &impl Abort, alloc: Global, callers: &[&[(u64, u32, u32)]; 4]) -> Vec<Log<Op, Reply>>
     ensures lists { AreLists (lists_of result.items) }
     ensures few { entries_in (lists_of result.items) ≤ 400 }
 {

@@ -45,7 +45,7 @@ objects_stay words i new objects apart few entries shown o k e =
           get_or-set_other words i (local_word p o) new 0 (apart.entries p o (omega (arith, near, most)) lt) ∙ is.entries p x f;
     }
 
-pub cells_stay : {P : Type 0} (procs : ℕ) (words : List ℕ) (homes : List (maybe.Option (Slot P))) (contents : Contents P) (i new : ℕ) (cells : List Cell)
+pub cells_stay : {P O R : Type 0} (procs : ℕ) (words : List ℕ) (homes : List (maybe.Option (Slot P O R))) (contents : Contents P) (i new : ℕ) (cells : List (Cell O R))
     → IsOfGenerations i → length cells ≤ 256 → EachPlace (IsCellShown procs words homes contents) cells
     → EachPlace (IsCellShown procs (set words i new) homes contents) cells
 cells_stay procs words homes contents i new cells apart few shown n x e =

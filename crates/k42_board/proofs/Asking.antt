@@ -29,8 +29,8 @@ use Rattle.k42_board.proofs.Moves.{Stays, Finds}
 use Rattle.k42_board.proofs.OnePass.{with_pass}
 use Rattle.k42_board.proofs.Turning.{own_goes, rows_kept, same_swap, stayed}
 
-module _ {S L P : Type 0} (F : Layouts S L P) (declared : List L)
-    (table : State (Slot P) (View P)) (r : Rule F declared table) (id : ℕ) (v : PassView P)
+module _ {S L P O R : Type 0} (F : Layouts S L P O R) (declared : List L)
+    (table : State (Slot P O R) (View P O R)) (r : Rule F declared table) (id : ℕ) (v : PassView P O R)
     (at : get_elem? table.views id ≡ some (Crew (v ∷ []))) (may : MayAskGeneration v) where
   abbrev k : GenProc
   k = proc_at (s F declared table r id v at) 0
@@ -90,13 +90,13 @@ module _ {S L P : Type 0} (F : Layouts S L P) (declared : List L)
       let fits = next_fits (s F declared table r id v at) v.number (sound F declared table r id v at) (there F declared table r id v at) 0 grace in
       let is = asked in omega (arith, fits, is)
 
-pub ask_stays : {S L P : Type 0} (F : Layouts S L P) (declared : List L) (id i : ℕ) (v : PassView P) → MayAskGeneration v → i ≡ generation_word 0
+pub ask_stays : {S L P O R : Type 0} (F : Layouts S L P O R) (declared : List L) (id i : ℕ) (v : PassView P O R) → MayAskGeneration v → i ≡ generation_word 0
     → Stays F declared i (λ word. word) (λ found v. took steps.AskGeneration i found (asked_view found v)) id v
 ask_stays {S} {L} {P} F declared id i v may same = logged_stays_at steps.AskGeneration (λ n. n) (λ found o before is. is) same goes where
   goes : Stays F declared (generation_word 0) (λ word. word) asked_view id v
   goes = record { from = λ table r at. asks F declared table r id v at may }
 
-pub ask_finds : {S L P : Type 0} (F : Layouts S L P) (declared : List L) (id i : ℕ) (v : PassView P) → MayAskGeneration v → i ≡ generation_word 0
+pub ask_finds : {S L P O R : Type 0} (F : Layouts S L P O R) (declared : List L) (id i : ℕ) (v : PassView P O R) → MayAskGeneration v → i ≡ generation_word 0
     → Finds F declared i GenerationFound id v
 ask_finds F declared id i v may same table r at =
     subst (λ (j : ℕ). GenerationFound v (get_or table.words j 0)) (sym same) (generation_found F declared table r id v at may)

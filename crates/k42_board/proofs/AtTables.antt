@@ -52,16 +52,16 @@ use Rattle.k42_board.specs.declared.view.View.TheVariants.{Crew}
 use Rattle.k42_board.proofs.OnePass.{with_pass, known, LeavesOthers, moved}
 
 -- the state with these objects and visitors, and where this is kept
-abbrev pub visited : {L : Type 0} → Joined L → List Object → List Visitor → List Kept → Joined L
+abbrev pub visited : {L O R : Type 0} → Joined L O R → List Object → List Visitor → List (Kept R) → Joined L O R
 visited s objects visitors kept =
     record s { phases = record s.phases { objects = objects; callers = visitors }; kept = kept }
 
 -- the rule stands in this table, in the state of the event, which was possible
-abbrev pub Steps : {S L P : Type 0} → Layouts S L P → List L → Joined L → joined.Event L → State (Slot P) (View P) → Type 0
+abbrev pub Steps : {S L P O R : Type 0} → Layouts S L P O R → List L → Joined L O R → joined.Event L O R → State (Slot P O R) (View P O R) → Type 0
 Steps F declared s event table = (after : Rule F declared table) × (after.state ≡ effect s event) × IsPossible F declared s event
 
 -- a table shows no names
-pub shows_naming : {L P : Type 0} (s : Joined L) (beside : Beside P) (naming : Row → ℕ) (table : State (Slot P) (View P)) → Shows s beside table
+pub shows_naming : {L P O R : Type 0} (s : Joined L O R) (beside : Beside P) (naming : Row → ℕ) (table : State (Slot P O R) (View P O R)) → Shows s beside table
     → Shows s (record beside { row_seat = naming }) table
 shows_naming s beside naming table shows = record {
   many_words = shows.many_words;
@@ -84,12 +84,12 @@ pub same_row : (k : Object) → IsSameRow k k
 same_row k = record { layout = refl; incarnation = refl; complete = refl; freed = le_refl k.freed }
 
 -- what is true of rows that were handed on, and freed, stays
-pub record GoesOn {L : Type 0} (s t : Joined L) : Type 0 where
+pub record GoesOn {L O R : Type 0} (s t : Joined L O R) : Type 0 where
   pub old : (row : Row) → IsOld s.phases row → IsOld t.phases row
   pub freed : (o : ℕ) → (object_at s.phases o).freed ≤ (object_at t.phases o).freed
 
 -- what a pass knows of the objects that it names stays
-pub record IsUndisturbed {L P : Type 0} (s t : Joined L) (x : PassView P) : Type 0 where
+pub record IsUndisturbed {L P O R : Type 0} (s t : Joined L O R) (x : PassView P O R) : Type 0 where
   pub place :
       (o i : ℕ) → IsInside x.visitor.place o i → (object_at t.phases o).layout ≡ (object_at s.phases o).layout
   pub swap : (o : ℕ) → named_by x.visitor.swap ≡ Some o → IsSameRow (object_at s.phases o) (object_at t.phases o)
@@ -97,10 +97,10 @@ pub record IsUndisturbed {L P : Type 0} (s t : Joined L) (x : PassView P) : Type
       (o : ℕ) → (span_at x.visitor.freeing o).0 < (span_at x.visitor.freeing o).1
       → (object_at t.phases o).incarnation ≡ (object_at s.phases o).incarnation
   pub over :
-      (answer : Answer) → x.found ≡ Some answer → tells_over answer ≡ true
+      (answer : Answer R) → x.found ≡ Some answer → tells_over answer ≡ true
       → (object_at t.phases (object_begun x.last)).incarnation ≡ (object_at s.phases (object_begun x.last)).incarnation
 
-turned_stays : {L : Type 0} (s t : Joined L) (swap : SwapAt)
+turned_stays : {L O R : Type 0} (s t : Joined L O R) (swap : SwapAt)
     → ((o : ℕ) → named_by swap ≡ Some o → IsSameRow (object_at s.phases o) (object_at t.phases o))
     → is_turned swap (object_at t.phases (object_named swap)) ≡ is_turned swap (object_at s.phases (object_named swap))
 turned_stays s t (Opened o) same = (same o refl).complete
@@ -111,7 +111,7 @@ moved_names (Moved o) e = refl
 moved_names swap e = absurd (cc)
 
 -- what a pass knows of its swap and of rows stays
-module _ {L P : Type 0} (s t : Joined L) (x : PassView P) where
+module _ {L P O R : Type 0} (s t : Joined L O R) (x : PassView P O R) where
   pub swap_stays : ((o : ℕ) → named_by x.visitor.swap ≡ Some o → IsSameRow (object_at s.phases o) (object_at t.phases o))
       → KnowsSwap s.phases x → KnowsSwap t.phases x
   swap_stays same knows = record {
@@ -131,8 +131,8 @@ module _ {L P : Type 0} (s t : Joined L) (x : PassView P) where
     spans = λ o some. let was = knows.spans o some in record { one = was.one; last = was.last ∙ sym (same o some) };
   }
 
-module _ {L : Type 0} (s : Joined L) (objects : List Object) (visitors : List Visitor) (kept : List Kept) where
-  abbrev pub t : Joined L
+module _ {L O R : Type 0} (s : Joined L O R) (objects : List Object) (visitors : List Visitor) (kept : List (Kept R)) where
+  abbrev pub t : Joined L O R
   t = visited s objects visitors kept
 
   pub record AreSameRows : Type 0 where
@@ -149,7 +149,7 @@ module _ {L : Type 0} (s : Joined L) (objects : List Object) (visitors : List Vi
     pub same_on : GoesOn s t
     same_on = record { old = old_stays; freed = λ o. (rows.each o).freed }
 
-    pub same_left : {P : Type 0} (x : PassView P) → IsUndisturbed s t x
+    pub same_left : {P : Type 0} (x : PassView P O R) → IsUndisturbed s t x
     same_left x = record {
       place = λ o i inside. (rows.each o).layout;
       swap = λ o named. rows.each o;
@@ -158,7 +158,7 @@ module _ {L : Type 0} (s : Joined L) (objects : List Object) (visitors : List Vi
     }
 
   -- a pass that does nothing
-  module _ {P : Type 0} (x : PassView P) (left : IsUndisturbed s t x) where
+  module _ {P : Type 0} (x : PassView P O R) (left : IsUndisturbed s t x) where
     handed_same : is_moved x.visitor.swap ≡ true → is_handed t (object_named x.visitor.swap) ≡ is_handed s (object_named x.visitor.swap)
     handed_same moved = rw (left.swap (object_named x.visitor.swap) (moved_names x.visitor.swap moved)).incarnation refl
 
@@ -200,7 +200,7 @@ module _ {L : Type 0} (s : Joined L) (objects : List Object) (visitors : List Vi
     }
 
   -- the parts that are due are as before
-  pub part_stays : {S P : Type 0} (F : Layouts S L P) (declared : List L) (on : GoesOn s t) (n : ℕ) (part : Option P)
+  pub part_stays : {S P : Type 0} (F : Layouts S L P O R) (declared : List L) (on : GoesOn s t) (n : ℕ) (part : Option P)
       → IsPart F declared s n part → IsPart F declared t n part
   part_stays F declared on n part is = record {
     due = λ declaration chain row declares of here kept.
@@ -211,8 +211,8 @@ module _ {L : Type 0} (s : Joined L) (objects : List Object) (visitors : List Vi
 
 -- the pass with this in place of what it knew of tables and swaps
 abbrev pub told :
-    {P : Type 0} → PassView P → Visitor → Option LastBegin → Option Answer → Bool → Bool → Option ℕ → Option ℕ → List Row
-    → PassView P
+    {P O R : Type 0} → PassView P O R → Visitor → Option LastBegin → Option (Answer R) → Bool → Bool → Option ℕ → Option ℕ → List Row
+    → PassView P O R
 told v x last found abandoned turned layout handed rows = record v {
   visitor = x;
   last = last;
@@ -225,11 +225,11 @@ told v x last found abandoned turned layout handed rows = record v {
 }
 
 -- The pass itself: what it knows of its activity and its cells stays.
-module _ {L P : Type 0} (tag_of : L → ℕ) (s : Joined L) (objects : List Object) (visitors : List Visitor) (kept : List Kept)
-    (beside : Beside P) (id : ℕ) (v : PassView P) (knows : KnowsPass tag_of s beside id v)
-    (x : Visitor) (last : Option LastBegin) (found : Option Answer) (abandoned turned : Bool) (layout handed : Option ℕ)
+module _ {L P O R : Type 0} (tag_of : L → ℕ) (s : Joined L O R) (objects : List Object) (visitors : List Visitor) (kept : List (Kept R))
+    (beside : Beside P) (id : ℕ) (v : PassView P O R) (knows : KnowsPass tag_of s beside id v)
+    (x : Visitor) (last : Option LastBegin) (found : Option (Answer R)) (abandoned turned : Bool) (layout handed : Option ℕ)
     (rows : List Row) where
-  abbrev own : PassView P
+  abbrev own : PassView P O R
   own = told v x last found abandoned turned layout handed rows
 
   pub own_after : (naming : Row → ℕ) → length visitors ≡ length s.phases.callers → NamesRows (record beside { row_seat = naming }) id rows
@@ -261,14 +261,14 @@ module _ {L P : Type 0} (tag_of : L → ℕ) (s : Joined L) (objects : List Obje
         was.spans;
   }
 
-module _ {S L P : Type 0} (F : Layouts S L P) (laws : AreLaws F) (declared : List L)
-    (table : State (Slot P) (View P)) (r : Rule F declared table) (id : ℕ) (v : PassView P)
+module _ {S L P O R : Type 0} (F : Layouts S L P O R) (laws : AreLaws F) (declared : List L)
+    (table : State (Slot P O R) (View P O R)) (r : Rule F declared table) (id : ℕ) (v : PassView P O R)
     (at : get_elem? table.views id ≡ some (Crew (v ∷ [])))
-    (e : Event) (objects : List Object) (kept : List Kept) (x : Visitor) where
+    (e : Event) (objects : List Object) (kept : List (Kept R)) (x : Visitor) where
   abbrev pub visitors_after : List Visitor
   visitors_after = set r.state.phases.callers v.number x
 
-  abbrev pub state_after : Joined L
+  abbrev pub state_after : Joined L O R
   state_after = visited r.state objects visitors_after kept
 
   knows : KnowsPass F.tag_of r.state r.beside id v
@@ -279,7 +279,7 @@ module _ {S L P : Type 0} (F : Layouts S L P) (laws : AreLaws F) (declared : Lis
     pub possible : IsPossible F declared r.state (AtPhases e)
     pub effect_is : state_after ≡ effect r.state (AtPhases e)
     pub on : GoesOn r.state state_after
-    pub left : (j : ℕ) (y : PassView P) → y.number ≢ v.number → KnowsPass F.tag_of r.state r.beside j y → IsUndisturbed r.state state_after y
+    pub left : (j : ℕ) (y : PassView P O R) → y.number ≢ v.number → KnowsPass F.tag_of r.state r.beside j y → IsUndisturbed r.state state_after y
     pub kept_else : (d : ℕ) → d ≢ v.number → kept_of state_after d ≡ kept_of r.state d
 
   pub same_visit : IsPossible F declared r.state (AtPhases e) → state_after ≡ effect r.state (AtPhases e)
@@ -315,7 +315,7 @@ module _ {S L P : Type 0} (F : Layouts S L P) (laws : AreLaws F) (declared : Lis
     sound = subst (λ z. IsSound F declared z) (sym visit.effect_is) (joined_keeps F laws declared r.state r.sound (AtPhases e) visit.possible)
 
     -- the pass moved by the event
-    pub visits_naming : (words : List ℕ) (w : PassView P)
+    pub visits_naming : (words : List ℕ) (w : PassView P O R)
         → Shows state_after r.beside (with_pass table words table.homes id w) → KnowsPass F.tag_of state_after beside_after id w
         → Steps F declared r.state (AtPhases e) (with_pass table words table.homes id w)
     visits_naming words w shows mine =
@@ -325,14 +325,14 @@ module _ {S L P : Type 0} (F : Layouts S L P) (laws : AreLaws F) (declared : Lis
         mine
         in (after.0, after.1 ∙ visit.effect_is, visit.possible)
 
-  pub visits : IsVisit → (words : List ℕ) (w : PassView P)
+  pub visits : IsVisit → (words : List ℕ) (w : PassView P O R)
       → Shows state_after r.beside (with_pass table words table.homes id w) → KnowsPass F.tag_of state_after r.beside id w
       → Steps F declared r.state (AtPhases e) (with_pass table words table.homes id w)
   visits visit words w shows mine = visits_naming visit r.beside.row_seat (λ row old. refl) words w shows mine
 
 -- a pass that goes on in its call
-module _ {S L P : Type 0} (F : Layouts S L P) (laws : AreLaws F) (declared : List L)
-    (table : State (Slot P) (View P)) (r : Rule F declared table) (id : ℕ) (v : PassView P)
+module _ {S L P O R : Type 0} (F : Layouts S L P O R) (laws : AreLaws F) (declared : List L)
+    (table : State (Slot P O R) (View P O R)) (r : Rule F declared table) (id : ℕ) (v : PassView P O R)
     (at : get_elem? table.views id ≡ some (Crew (v ∷ [])))
     (objects : List Object) (place : Place) (read : List (ℕ × ℕ)) (layout : Option ℕ) where
   abbrev pub visitor_gone : Visitor
@@ -341,7 +341,7 @@ module _ {S L P : Type 0} (F : Layouts S L P) (laws : AreLaws F) (declared : Lis
   abbrev visitors_gone : List Visitor
   visitors_gone = set r.state.phases.callers v.number visitor_gone
 
-  abbrev pub state_gone : Joined L
+  abbrev pub state_gone : Joined L O R
   state_gone = visited r.state objects visitors_gone r.state.kept
 
   -- what it learns is so
@@ -414,7 +414,7 @@ generations_as_before words i new g counts apart few shown = record {
   begun = shown.begun;
 }
 
-pub locks_as_before : {P : Type 0} (procs : ℕ) (words : List ℕ) (homes : List (maybe.Option (Slot P))) (contents : Contents P) (i new : ℕ) (cells : List Cell)
+pub locks_as_before : {P O R : Type 0} (procs : ℕ) (words : List ℕ) (homes : List (maybe.Option (Slot P O R))) (contents : Contents P) (i new : ℕ) (cells : List (Cell O R))
     → IsOfTables i → length cells ≤ 256 → EachPlace (IsCellShown procs words homes contents) cells
     → EachPlace (IsCellShown procs (set words i new) homes contents) cells
 locks_as_before procs words homes contents i new cells apart few shown n x e =
@@ -475,7 +475,7 @@ object_written words objects o k l new wide many long small here entries freed i
           get_or-set_other words (object_word o) (local_word n q) new 0 (λ h. omega (arith, small, near, lt, h)) ∙ old.entries n x f;
     })
 
-pub rows_same : {L : Type 0} (s : Joined L) (o : ℕ) (k : Object) (visitors : List Visitor) (kept : List Kept) → o < length s.phases.objects
+pub rows_same : {L O R : Type 0} (s : Joined L O R) (o : ℕ) (k : Object) (visitors : List Visitor) (kept : List (Kept R)) → o < length s.phases.objects
     → IsSameRow (object_at s.phases o) k → AreSameRows s (set s.phases.objects o k) visitors kept
 rows_same s o k visitors kept there same = record {
   many = length-set s.phases.objects o k;
@@ -488,15 +488,15 @@ rows_same s o k visitors kept there same = record {
       (subst (IsSameRow (object_at s.phases o)) (sym (get_or-set_same s.phases.objects o k fresh_object there)) same)
 
 -- what a pass that writes a word at the tables owes
-module _ {S L P : Type 0} (F : Layouts S L P) (laws : AreLaws F) (declared : List L)
-    (table : State (Slot P) (View P)) (r : Rule F declared table) (id : ℕ) (v : PassView P)
+module _ {S L P O R : Type 0} (F : Layouts S L P O R) (laws : AreLaws F) (declared : List L)
+    (table : State (Slot P O R) (View P O R)) (r : Rule F declared table) (id : ℕ) (v : PassView P O R)
     (at : get_elem? table.views id ≡ some (Crew (v ∷ []))) where
   pub few_entries : EachPlace (λ o (k : Object). length k.entries ≤ 8) r.state.phases.objects
   few_entries o k here =
       let long = (r.sound.phases.in_scene.objects o k here).many_entries in
       let few = r.sound.phases.in_scene.in_course.limits.few_procs in omega (arith, long, few)
 
-  pub written_shows : (objects : List Object) (x : Visitor) (kept : List Kept) (i new : ℕ) (w : PassView P) → IsOfTables i → length objects ≡ length r.state.phases.objects
+  pub written_shows : (objects : List Object) (x : Visitor) (kept : List (Kept R)) (i new : ℕ) (w : PassView P O R) → IsOfTables i → length objects ≡ length r.state.phases.objects
       → AreObjects (set table.words i new) objects
       → Shows (visited r.state objects (set r.state.phases.callers v.number x) kept) r.beside (with_pass table (set table.words i new) table.homes id w)
   written_shows objects x kept i new w apart many shown = record {

@@ -63,8 +63,8 @@ begun_unturned : (o : ℕ) (over : Bool) (l : Object) → is_turned (begun_as o 
 begun_unturned o true l = refl
 begun_unturned o false l = refl
 
-module _ {S L P : Type 0} (F : Layouts S L P) (laws : AreLaws F) (declared : List L)
-    (table : State (Slot P) (View P)) (r : Rule F declared table) (id : ℕ) (v : PassView P)
+module _ {S L P O R : Type 0} (F : Layouts S L P O R) (laws : AreLaws F) (declared : List L)
+    (table : State (Slot P O R) (View P O R)) (r : Rule F declared table) (id : ℕ) (v : PassView P O R)
     (at : get_elem? table.views id ≡ some (Crew (v ∷ []))) (o : ℕ) (may : MayBegin (length declared) o v) where
   abbrev s : Phases
   s = r.state.phases
@@ -84,16 +84,16 @@ module _ {S L P : Type 0} (F : Layouts S L P) (laws : AreLaws F) (declared : Lis
   abbrev x : Visitor
   x = stage_begun o found v.visitor
 
-  abbrev kept' : Kept
+  abbrev kept' : Kept R
   kept' = record (kept_of r.state c) { begun = Some o; found = answer_found k }
 
   abbrev objects : List Object
   objects = set s.objects o k'
 
-  abbrev kept : List Kept
+  abbrev kept : List (Kept R)
   kept = set r.state.kept c kept'
 
-  abbrev after : Joined L
+  abbrev after : Joined L O R
   after = visited r.state objects (set s.callers c x) kept
 
   knows : KnowsPass F.tag_of r.state r.beside id v
@@ -114,7 +114,7 @@ module _ {S L P : Type 0} (F : Layouts S L P) (laws : AreLaws F) (declared : Lis
   over_is : is_over_in found ≡ is_over k
   over_is = rw (is_read.layout, is_read.incarnation) refl
 
-  answer_is : answer_in found ≡ answer_found k
+  answer_is : answer_in {R = R} found ≡ answer_found k
   answer_is = rw (is_read.layout, is_read.incarnation, is_read.swap, is_read.complete) refl
 
   abbrev phases_if : Bool → Visitor → Bool → Phases
@@ -219,7 +219,7 @@ module _ {S L P : Type 0} (F : Layouts S L P) (laws : AreLaws F) (declared : Lis
       (record {
         kept =
             get_or-set_same r.state.kept c kept' nothing_kept c_kept
-            ∙ (λ j. record { begun = Some o; found = sym answer_is j; abandoned = (ap (λ (z : Kept). z.abandoned) knows.trace.kept) j });
+            ∙ (λ j. record { begun = Some o; found = sym answer_is j; abandoned = (ap (λ (z : Kept R). z.abandoned) knows.trace.kept) j });
         found = λ answer e. e;
         over = λ answer e tells. is_read.incarnation ∙ sym (rows.each o).incarnation;
         handed = λ tag e. absurd (let old = (knows.trace.handed tag e).0 in let not : is_moved v.visitor.swap ≡ false = ap is_moved swap_is in cc);
@@ -239,29 +239,29 @@ module _ {S L P : Type 0} (F : Layouts S L P) (laws : AreLaws F) (declared : Lis
       (swap_set k found (object_fits s r.sound.phases o there) (object_shown F laws declared table r id v at o there)) r.shows.objects))
       pass_after
 
-begin_goes : {S L P : Type 0} (F : Layouts S L P) → AreLaws F → (declared : List L) (id o : ℕ) (v : PassView P) → MayBegin (length declared) o v
+begin_goes : {S L P O R : Type 0} (F : Layouts S L P O R) → AreLaws F → (declared : List L) (id o : ℕ) (v : PassView P O R) → MayBegin (length declared) o v
     → Moves F declared (AtPhases (Begin v.number o)) (object_word o) (λ word. bit_or word 16777216) (begun_view o) id v
 begin_goes F laws declared id o v may = record { from = λ table r at. begins F laws declared table r id v at o may }
 
-pub begin_moves : {S L P : Type 0} (F : Layouts S L P) → AreLaws F → (declared : List L) (id o : ℕ) (v : PassView P) → MayBegin (length declared) o v
+pub begin_moves : {S L P O R : Type 0} (F : Layouts S L P O R) → AreLaws F → (declared : List L) (id o : ℕ) (v : PassView P O R) → MayBegin (length declared) o v
     → Moves F declared (AtPhases (Begin v.number o)) (object_word o) (λ word. bit_or word 16777216) (λ found x. took steps.Begin (object_word o) found (begun_view o found x)) id v
 begin_moves F laws declared id o v may = logged_moves steps.Begin (λ n. n) (λ found q before is. is) (begin_goes F laws declared id o v may)
 
 -- as the play tells it, at the word that the step names
-module _ {S L P : Type 0} (F : Layouts S L P) (laws : AreLaws F) (declared : List L) (id o : ℕ)
-    (me : Seated P) (is : IsSeatOf me (pass_in me.0)) (may : MayBegin (length declared) o (pass_in me.0)) (word : ℕ) (there : word ≡ object_word o) where
-  abbrev begin_at : ℕ × ℕ → ℕ → PassView P → PassView P
+module _ {S L P O R : Type 0} (F : Layouts S L P O R) (laws : AreLaws F) (declared : List L) (id o : ℕ)
+    (me : Seated P O R) (is : IsSeatOf me (pass_in me.0)) (may : MayBegin (length declared) o (pass_in me.0)) (word : ℕ) (there : word ≡ object_word o) where
+  abbrev begin_at : ℕ × ℕ → ℕ → PassView P O R → PassView P O R
   begin_at at found x = took steps.Begin at.0 found (begun_view at.1 found x)
 
   begin_same : (found : ℕ) → begin_at (object_word o, o) found (pass_in me.0) ≡ begin_at (word, word_object word) found (pass_in me.0)
   begin_same found = ap (λ at. begin_at at found (pass_in me.0)) (λ j. (sym there j, sym (word_object_is o word there) j))
 
-  pub begin_allowed : {callers : ℕ} (slots : ℕ) (step : Step (Slot P))
+  pub begin_allowed : {callers : ℕ} (slots : ℕ) (step : Step (Slot P O R))
       → Allows (Ruled F declared callers) slots id me word (λ n. bit_or n 16777216) (TellsWith (begin_at (word, word_object word)) ObjectFound step me)
   begin_allowed slots step =
       retold_allowed_with (begin_at (object_word o, o)) (begin_at (word, word_object word)) begin_same (begin_moves F laws declared id o (pass_in me.0) may) ObjectFound
       (object_finds F laws declared id o (pass_in me.0) may.there) me is word there slots step
 
-  pub begin_told : (step : Step (Slot P)) (found : ℕ) (after : Seated P) → TellsWith (begin_at (word, word_object word)) ObjectFound step me found after
+  pub begin_told : (step : Step (Slot P O R)) (found : ℕ) (after : Seated P O R) → TellsWith (begin_at (word, word_object word)) ObjectFound step me found after
       → Tells (begin_at (object_word o, o)) step me found after
   begin_told step found after told = retold (begin_at (object_word o, o)) (begin_at (word, word_object word)) begin_same me after is step found told.0

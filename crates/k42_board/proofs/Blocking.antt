@@ -54,8 +54,8 @@ drained_is : (swap : SwapAt) → is_drained swap ≡ true → IsDrained swap
 drained_is (Drained o) e = record { named = refl; unmoved = refl; unturned = λ k. refl; clear = λ b layout incarnation is. is.0 }
 drained_is swap e = absurd (cc)
 
-module _ {S L P : Type 0} (F : Layouts S L P) (laws : AreLaws F) (declared : List L)
-    (table : State (Slot P) (View P)) (r : Rule F declared table) (id : ℕ) (v : PassView P)
+module _ {S L P O R : Type 0} (F : Layouts S L P O R) (laws : AreLaws F) (declared : List L)
+    (table : State (Slot P O R) (View P O R)) (r : Rule F declared table) (id : ℕ) (v : PassView P O R)
     (at : get_elem? table.views id ≡ some (Crew (v ∷ []))) (may : MayBlock v) where
   abbrev s : Phases
   s = r.state.phases
@@ -99,7 +99,7 @@ module _ {S L P : Type 0} (F : Layouts S L P) (laws : AreLaws F) (declared : Lis
   staged : IsStaged r.state o k'
   staged = stays_staged r.state o k' (record { layout = refl; incarnation = refl; freed = refl; complete = λ done. done })
 
-  abbrev after : Joined L
+  abbrev after : Joined L O R
   after = visited r.state (set s.objects o k') (set s.callers c (at_stage v.visitor (Blocking o))) r.state.kept
 
   effect_is : after ≡ effect r.state (AtPhases (Block c))
@@ -139,33 +139,33 @@ module _ {S L P : Type 0} (F : Layouts S L P) (laws : AreLaws F) (declared : Lis
       r.shows.objects))
       pass_after
 
-block_goes : {S L P : Type 0} (F : Layouts S L P) → AreLaws F → (declared : List L) (id : ℕ) (v : PassView P) → MayBlock v
+block_goes : {S L P O R : Type 0} (F : Layouts S L P O R) → AreLaws F → (declared : List L) (id : ℕ) (v : PassView P O R) → MayBlock v
     → Moves F declared (AtPhases (Block v.number)) (object_word (object_swapped v)) (λ word. bit_or word 33554432) (λ found. blocked_view) id v
 block_goes F laws declared id v may = record { from = λ table r at. blocks F laws declared table r id v at may }
 
-pub block_moves : {S L P : Type 0} (F : Layouts S L P) → AreLaws F → (declared : List L) (id : ℕ) (v : PassView P) → MayBlock v
+pub block_moves : {S L P O R : Type 0} (F : Layouts S L P O R) → AreLaws F → (declared : List L) (id : ℕ) (v : PassView P O R) → MayBlock v
     → Moves F declared (AtPhases (Block v.number)) (object_word (object_swapped v)) (λ word. bit_or word 33554432) (λ found x. took steps.Block (object_word (object_swapped x)) found (blocked_view x))
     id v
 block_moves F laws declared id v may = record { from = (logged_moves steps.Block (λ n. n) (λ found q before is. is) (block_goes F laws declared id v may)).from }
 
 -- as the play tells it, at the word that the step names
-module _ {S L P : Type 0} (F : Layouts S L P) (laws : AreLaws F) (declared : List L) (id : ℕ)
-    (me : Seated P) (is : IsSeatOf me (pass_in me.0)) (may : MayBlock (pass_in me.0))
+module _ {S L P O R : Type 0} (F : Layouts S L P O R) (laws : AreLaws F) (declared : List L) (id : ℕ)
+    (me : Seated P O R) (is : IsSeatOf me (pass_in me.0)) (may : MayBlock (pass_in me.0))
     (word o : ℕ) (at : word ≡ object_word o) (same : object_swapped (pass_in me.0) ≡ o) where
   block_there : word ≡ object_word (object_swapped (pass_in me.0))
   block_there = at ∙ ap object_word (sym same)
 
-  abbrev block_row : ℕ → PassView P → PassView P
+  abbrev block_row : ℕ → PassView P O R → PassView P O R
   block_row found x = took steps.Block (object_word (object_swapped x)) found (blocked_view x)
 
-  abbrev block_play : ℕ → PassView P → PassView P
+  abbrev block_play : ℕ → PassView P O R → PassView P O R
   block_play found x = took steps.Block word found (blocked_view x)
 
   block_same : (found : ℕ) → block_row found (pass_in me.0) ≡ block_play found (pass_in me.0)
   block_same found = ap (λ i. took steps.Block i found (blocked_view (pass_in me.0))) (sym block_there)
 
-  pub block_allowed : {callers : ℕ} (slots : ℕ) (step : Step (Slot P)) → Allows (Ruled F declared callers) slots id me word (λ n. bit_or n 33554432) (Tells block_play step me)
+  pub block_allowed : {callers : ℕ} (slots : ℕ) (step : Step (Slot P O R)) → Allows (Ruled F declared callers) slots id me word (λ n. bit_or n 33554432) (Tells block_play step me)
   block_allowed slots step = retold_allowed block_row block_play block_same (block_moves F laws declared id (pass_in me.0) may) me is word block_there slots step
 
-  pub block_told : (step : Step (Slot P)) (found : ℕ) (after : Seated P) → Tells block_play step me found after → Tells block_row step me found after
+  pub block_told : (step : Step (Slot P O R)) (found : ℕ) (after : Seated P O R) → Tells block_play step me found after → Tells block_row step me found after
   block_told step found after told = retold block_row block_play block_same me after is step found told

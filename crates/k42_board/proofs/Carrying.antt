@@ -45,9 +45,9 @@ only_one a b (suc i) e = absurd (some-ne-none b (sym e))
 true_false : true ≡ false → ⊥
 true_false e = cc
 
-module _ {P : Type 0} where
+module _ {P O R : Type 0} where
   -- where one pass is tied, all are
-  all_tied : (items : List (Slip P)) (views : List Carried) → Carries items views → (pass : ℕ) (v : Carried) → get_elem? views pass ≡ some v → v.tied ≡ true
+  all_tied : (items : List (Slip P O R)) (views : List Carried) → Carries items views → (pass : ℕ) (v : Carried) → get_elem? views pass ≡ some v → v.tied ≡ true
       → (j : ℕ) (u : Carried) → get_elem? views j ≡ some u → u.tied ≡ true
   all_tied items views h pass v at tied j u e = by_test u.tied refl where
     by_test : (b : Bool) → u.tied ≡ b → u.tied ≡ true
@@ -57,7 +57,7 @@ module _ {P : Type 0} where
         let same = only_one u v pass (subst (λ (l : List Carried). get_elem? l pass ≡ some v) alone at) in
         absurd (true_false (sym tied ∙ ap (λ (z : Carried). z.tied) (sym same) ∙ is))
 
-  module _ (items : List (Slip P)) (views : List Carried) (h : Carries items views) (pass : ℕ) (v : Carried) (at : get_elem? views pass ≡ some v) (tied : v.tied ≡ true)
+  module _ (items : List (Slip P O R)) (views : List Carried) (h : Carries items views) (pass : ℕ) (v : Carried) (at : get_elem? views pass ≡ some v) (tied : v.tied ≡ true)
       (w : Carried) (same : table_of w ≡ table_of v) (tied' : w.tied ≡ true) where
     -- as one pass becomes another, all are of the table, and none is untied
     tied_set : (j : ℕ) (u : Carried) → get_elem? (set views pass w) j ≡ some u → (u.tied ≡ true) × (table_of u ≡ h.table)
@@ -67,7 +67,7 @@ module _ {P : Type 0} where
         (λ old. let is = all_tied items views h pass v at tied j u old.1 in (is, h.tied j u old.1 is))
         (at_set views pass j w u e)
 
-  pub pushes_keep : (n pass : ℕ) (v : Carried) (x : Slip P) → v.tied ≡ true → IsRetired (table_of v) x → Pushes Carries n pass v x (Pushed v x)
+  pub pushes_keep : (n pass : ℕ) (v : Carried) (x : Slip P O R) → v.tied ≡ true → IsRetired (table_of v) x → Pushes Carries n pass v x (Pushed v x)
   pushes_keep n pass v x tied ours items views room h at = (
     w,
     record {
@@ -83,7 +83,7 @@ module _ {P : Type 0} where
           let old = h.counted row in
           let popped = sum_set (λ (u : Carried). times row u.popped) views pass v w 0 at (omega arith) in
           let pushed = sum_set (λ (u : Carried). times row u.pushed) views pass v w (cond (is_row row x.row) 1 0) at (once_more row x.row v.pushed) in
-          let there = sum_push (λ (y : Slip P). cond (is_row row y.row) 1 0) items x in
+          let there = sum_push (λ (y : Slip P O R). cond (is_row row y.row) 1 0) items x in
           omega (arith, old, popped, pushed, there);
     },
     refl,
@@ -94,7 +94,7 @@ module _ {P : Type 0} where
     all : (j : ℕ) (u : Carried) → get_elem? (set views pass w) j ≡ some u → (u.tied ≡ true) × (table_of u ≡ h.table)
     all = tied_set items views h pass v at tied w refl tied
 
-  pub pops_keep : (pass : ℕ) (v : Carried) → v.tied ≡ true → Pops (Carries {P = P}) pass v (Popped v)
+  pub pops_keep : (pass : ℕ) (v : Carried) → v.tied ≡ true → Pops (Carries {P = P} {O = O} {R = R}) pass v (Popped v)
   pops_keep pass v tied x items views h at = (
     w,
     record {
@@ -106,7 +106,7 @@ module _ {P : Type 0} where
           let old = h.counted row in
           let popped = sum_set (λ (u : Carried). times row u.popped) views pass v w (cond (is_row row x.row) 1 0) at (once_more row x.row v.popped) in
           let pushed = sum_set (λ (u : Carried). times row u.pushed) views pass v w 0 at (omega arith) in
-          let there = sum_first (λ (y : Slip P). cond (is_row row y.row) 1 0) x items in
+          let there = sum_first (λ (y : Slip P O R). cond (is_row row y.row) 1 0) x items in
           omega (arith, old, popped, pushed, there);
     },
     (subst (λ t. IsRetired t x) (sym (h.tied pass v at tied)) (h.items_are 0 x refl), refl),
@@ -117,11 +117,11 @@ module _ {P : Type 0} where
     all : (j : ℕ) (u : Carried) → get_elem? (set views pass w) j ≡ some u → (u.tied ≡ true) × (table_of u ≡ h.table)
     all = tied_set (x ∷ items) views h pass v at tied w refl tied
 
-  pub learns_rule : (pass : ℕ) (v : Carried) → Learns (Carries {P = P}) pass v (IsRuled v)
+  pub learns_rule : (pass : ℕ) (v : Carried) → Learns (Carries {P = P} {O = O} {R = R}) pass v (IsRuled v)
   learns_rule pass v items views h at = (views, pass, at, h)
 
   -- a new pass has moved no row
-  pub forks_keep : (pass : ℕ) (v : Carried) → v.tied ≡ true → Forks (Carries {P = P}) pass v v (fresh_carried v)
+  pub forks_keep : (pass : ℕ) (v : Carried) → v.tied ≡ true → Forks (Carries {P = P} {O = O} {R = R}) pass v v (fresh_carried v)
   forks_keep pass v tied items views h at = record {
     table = h.table;
     items_are = h.items_are;
@@ -144,10 +144,10 @@ module _ {P : Type 0} where
 
   -- the first pass alone is tied to a table
   pub ties_keep : (table : TableId) (pass : ℕ) (v : Carried) → v.tied ≡ false
-      → Forks (Carries {P = P}) pass v (tied_to table v) (carried_none true table)
+      → Forks (Carries {P = P} {O = O} {R = R}) pass v (tied_to table v) (carried_none true table)
   ties_keep table pass v untied items views h at = record {
     table = table;
-    items_are = λ place x e. absurd (none_at place x (subst (λ (l : List (Slip P)). slice_get l place ≡ Some x) alone.0 e));
+    items_are = λ place x e. absurd (none_at place x (subst (λ (l : List (Slip P O R)). slice_get l place ≡ Some x) alone.0 e));
     tied = λ j u e is. (all j u e).1;
     untied = λ j u e is. absurd (true_false (sym (all j u e).0 ∙ is));
     counted = λ row.
@@ -164,7 +164,7 @@ module _ {P : Type 0} where
     alone : (items ≡ []) × (views ≡ v ∷ [])
     alone = h.untied pass v at untied
 
-    none_at : (place : ℕ) (x : Slip P) → slice_get [] place ≡ Some x → ⊥
+    none_at : (place : ℕ) (x : Slip P O R) → slice_get [] place ≡ Some x → ⊥
     none_at place x e = cc
 
     one_place : (a b : Carried) (i : ℕ) → get_elem? (a ∷ []) i ≡ some b → i ≡ 0
@@ -184,7 +184,7 @@ module _ {P : Type 0} where
         (λ new. subst (λ (z : Carried). (z.tied ≡ true) × (table_of z ≡ table)) new (refl, refl))
         (at_snoc (set views pass w) (carried_none true table) u j e)
 
-  pub begins : Carries {P = P} [] (carried_none false no_table ∷ [])
+  pub begins : Carries {P = P} {O = O} {R = R} [] (carried_none false no_table ∷ [])
   begins = record {
     table = no_table;
     items_are = λ place x e. absurd (cc);

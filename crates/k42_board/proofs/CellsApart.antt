@@ -71,9 +71,9 @@ written_else f n a m not = elim (eqb_tells m n) [
 ]
 
 -- a note of the cell, among the notes that name it
-pub record HasNote {P : Type 0} (notes : List (Note P)) (n : ℕ) : Type 0 where
+pub record HasNote {P O R : Type 0} (notes : List (Note P O R)) (n : ℕ) : Type 0 where
   pub place : ℕ
-  pub note : Note P
+  pub note : Note P O R
   pub there : slice_get notes place ≡ Some note
   pub named : note.cell ≡ n
 
@@ -91,7 +91,7 @@ further_noted m n cells e = go (eqb m n) where
   go true = refl
   go false = e
 
-pub note_of : {P : Type 0} (notes : List (Note P)) (n : ℕ) → names (cells_noted notes) n ≡ true → HasNote notes n
+pub note_of : {P O R : Type 0} (notes : List (Note P O R)) (n : ℕ) → names (cells_noted notes) n ≡ true → HasNote notes n
 note_of [] n e = absurd (cc)
 note_of (note ∷ notes) n e = go (eqb note.cell n) refl e (note_of notes n) where
   go : (b : Bool) → eqb note.cell n ≡ b → b || names (cells_noted notes) n ≡ true → (names (cells_noted notes) n ≡ true → HasNote notes n)
@@ -99,20 +99,20 @@ note_of (note ∷ notes) n e = go (eqb note.cell n) refl e (note_of notes n) whe
   go true same e rest' = record { place = 0; note = note; there = refl; named = eqb-true note.cell n same }
   go false apart e rest' = let rest = rest' e in record { place = suc rest.place; note = rest.note; there = rest.there; named = rest.named }
 
-pub is_noted : {P : Type 0} (notes : List (Note P)) (i : ℕ) (note : Note P) → slice_get notes i ≡ Some note → names (cells_noted notes) note.cell ≡ true
+pub is_noted : {P O R : Type 0} (notes : List (Note P O R)) (i : ℕ) (note : Note P O R) → slice_get notes i ≡ Some note → names (cells_noted notes) note.cell ≡ true
 is_noted [] i note e = absurd (cc)
-is_noted (first ∷ notes) zero note e = first_noted first.cell note.cell (cells_noted notes) (ap (λ (x : Note _). x.cell) (same_Some first note e))
+is_noted {O} {R} (first ∷ notes) zero note e = first_noted first.cell note.cell (cells_noted notes) (ap (λ (x : Note _ O R). x.cell) (same_Some first note e))
 is_noted (first ∷ notes) (suc i) note e = further_noted first.cell note.cell (cells_noted notes) (is_noted notes i note e)
 
-pub record IsKept {P : Type 0} (notes : List (Note P)) (n : ℕ) (note : Note P) : Type 0 where
+pub record IsKept {P O R : Type 0} (notes : List (Note P O R)) (n : ℕ) (note : Note P O R) : Type 0 where
   pub apart : note.cell ≢ n
   pub place : ℕ
   pub there : slice_get notes place ≡ Some note
 
-pub each_without : {P : Type 0} (n : ℕ) (notes : List (Note P)) → EachPlace (λ place note. IsKept notes n note) (without n notes)
+pub each_without : {P O R : Type 0} (n : ℕ) (notes : List (Note P O R)) → EachPlace (λ place note. IsKept notes n note) (without n notes)
 each_without n [] = λ i note e. absurd (cc)
-each_without n (first ∷ notes) = go (eqb first.cell n) refl (each_without n notes) where
-  further : (note : Note _) → IsKept notes n note → IsKept (first ∷ notes) n note
+each_without {O} {R} n (first ∷ notes) = go (eqb first.cell n) refl (each_without n notes) where
+  further : (note : Note _ O R) → IsKept notes n note → IsKept (first ∷ notes) n note
   further note kept = record { apart = kept.apart; place = suc kept.place; there = kept.there }
 
   go : (b : Bool) → eqb first.cell n ≡ b → EachPlace (λ place note. IsKept notes n note) (without n notes)
@@ -122,7 +122,7 @@ each_without n (first ∷ notes) = go (eqb first.cell n) refl (each_without n no
       (record { apart = λ e. let is = eq-eqb first.cell n e in absurd (cc); place = 0; there = refl })
       (λ i note e. further note (rest i note e))
 
-pub still_noted : {P : Type 0} (n m : ℕ) (notes : List (Note P)) → m ≢ n → names (cells_noted notes) m ≡ true → names (cells_noted (without n notes)) m ≡ true
+pub still_noted : {P O R : Type 0} (n m : ℕ) (notes : List (Note P O R)) → m ≢ n → names (cells_noted notes) m ≡ true → names (cells_noted (without n notes)) m ≡ true
 still_noted n m [] apart e = e
 still_noted n m (first ∷ notes) apart e = go (eqb first.cell n) (eqb first.cell m) refl refl e (still_noted n m notes apart) where
   go : (b d : Bool) → eqb first.cell n ≡ b → eqb first.cell m ≡ d → d || names (cells_noted notes) m ≡ true

@@ -47,14 +47,14 @@ some_one : (c d : ℕ) → Some c ≡ Some d → c ≡ d
 some_one c d e = cc
 
 -- a note is told where its cell is named
-pub each_told : {P : Type 0} (cells : List ℕ) (entry : Entry) (fresh : ℕ → Option P) (notes : List (Note P)) (i : ℕ) (note : Note P)
+pub each_told : {P O R : Type 0} (cells : List ℕ) (entry : Entry O R) (fresh : ℕ → Option P) (notes : List (Note P O R)) (i : ℕ) (note : Note P O R)
     → slice_get (told_notes cells entry fresh notes) i ≡ Some note
-    → (old : Note P) × (slice_get notes i ≡ Some old) × (note ≡ told_note cells entry fresh old)
+    → (old : Note P O R) × (slice_get notes i ≡ Some old) × (note ≡ told_note cells entry fresh old)
 each_told cells entry fresh [] i note e = absurd (cc)
 each_told cells entry fresh (first ∷ notes) zero note e = (first, refl, sym (same_Some _ note e))
 each_told cells entry fresh (first ∷ notes) (suc i) note e = each_told cells entry fresh notes i note e
 
-pub told_cells : {P : Type 0} (cells : List ℕ) (entry : Entry) (fresh : ℕ → Option P) (notes : List (Note P))
+pub told_cells : {P O R : Type 0} (cells : List ℕ) (entry : Entry O R) (fresh : ℕ → Option P) (notes : List (Note P O R))
     → cells_noted (told_notes cells entry fresh notes) ≡ cells_noted notes
 told_cells cells entry fresh [] = refl
 told_cells cells entry fresh (first ∷ notes) = go (names cells first.cell) (told_cells cells entry fresh notes) where
@@ -63,16 +63,16 @@ told_cells cells entry fresh (first ∷ notes) = go (names cells first.cell) (to
   go false rest = ap (λ xs. first.cell ∷ xs) rest
 
 -- the slot of a cell that is away says nothing of its history and its part
-told_slot : {P : Type 0} (n : ℕ) (x y : Cell) (part part' : Option P) (slot : maybe.Option (Slot P)) (out home : Bool) → home ≡ false
+told_slot : {P O R : Type 0} (n : ℕ) (x y : Cell O R) (part part' : Option P) (slot : maybe.Option (Slot P O R)) (out home : Bool) → home ≡ false
     → IsSlot n x part slot out home → IsSlot n y part' slot out home
 told_slot n x y part part' slot out true e is = absurd (cc)
 told_slot n x y part part' slot true false e is = is
 told_slot n x y part part' slot false false e is = is
 
-module _ {S L P : Type 0} (F : Layouts S L P) (laws : AreLaws F) (declared : List L)
-    (table : State (Slot P) (View P)) (r : Rule F declared table) (id : ℕ) (v : PassView P)
-    (at : get_elem? table.views id ≡ some (Crew (v ∷ []))) (cells : List ℕ) (entry : Entry) (fresh : ℕ → Option P) where
-  abbrev s : Joined L
+module _ {S L P O R : Type 0} (F : Layouts S L P O R) (laws : AreLaws F) (declared : List L)
+    (table : State (Slot P O R) (View P O R)) (r : Rule F declared table) (id : ℕ) (v : PassView P O R)
+    (at : get_elem? table.views id ≡ some (Crew (v ∷ []))) (cells : List ℕ) (entry : Entry O R) (fresh : ℕ → Option P) where
+  abbrev s : Joined L O R
   s = r.state
 
   abbrev c : ℕ
@@ -84,10 +84,10 @@ module _ {S L P : Type 0} (F : Layouts S L P) (laws : AreLaws F) (declared : Lis
   abbrev pub told_contents : Contents P
   told_contents = record contents { part = λ n. cond (names cells n) (fresh n) (contents.part n) }
 
-  abbrev pub t : Turns
+  abbrev pub t : Turns O R
   t = turns.effect s.turns (Draw c cells entry)
 
-  abbrev w : PassView P
+  abbrev w : PassView P O R
   w = untold_view cells (drawn_view cells entry fresh v)
 
   k : KnowsPass F.tag_of s r.beside id v
@@ -107,7 +107,7 @@ module _ {S L P : Type 0} (F : Layouts S L P) (laws : AreLaws F) (declared : Lis
     pub parts : (n : ℕ) → n < length t.cells → IsPart F declared (effect s (AtCells (Draw c cells entry))) n (told_contents.part n)
 
   module _ (is : IsDraw) where
-    abbrev base : Turns
+    abbrev base : Turns O R
     base = change_caller (caller_drawn entry) s.turns c
 
     c_there : c < length s.turns.callers
@@ -140,14 +140,14 @@ module _ {S L P : Type 0} (F : Layouts S L P) (laws : AreLaws F) (declared : Lis
     lock_stays : (n : ℕ) → (cell_at t n).lock ≡ (cell_at s.turns n).lock
     lock_stays n = go (names cells n) refl where
       go : (b : Bool) → names cells n ≡ b → (cell_at t n).lock ≡ (cell_at s.turns n).lock
-      go true e = ap (λ (x : Cell). x.lock) (named n e)
-      go false e = ap (λ (x : Cell). x.lock) (unnamed n e)
+      go true e = ap (λ (x : Cell O R). x.lock) (named n e)
+      go false e = ap (λ (x : Cell O R). x.lock) (unnamed n e)
 
     home_stays : (n : ℕ) → (cell_at t n).home ≡ (cell_at s.turns n).home
     home_stays n = go (names cells n) refl where
       go : (b : Bool) → names cells n ≡ b → (cell_at t n).home ≡ (cell_at s.turns n).home
-      go true e = ap (λ (x : Cell). x.home) (named n e)
-      go false e = ap (λ (x : Cell). x.home) (unnamed n e)
+      go true e = ap (λ (x : Cell O R). x.home) (named n e)
+      go false e = ap (λ (x : Cell O R). x.home) (unnamed n e)
 
     of_other : (n d : ℕ) → d ≢ c → (cell_at s.turns n).lock ≡ Some d → names cells n ≡ false
     of_other n d not lock = go (names cells n) refl where
@@ -164,7 +164,7 @@ module _ {S L P : Type 0} (F : Layouts S L P) (laws : AreLaws F) (declared : Lis
       held = λ n d not lock. stays n (of_other n d not lock);
       holds = λ n d not lock. stays n (of_other n d not (sym (lock_stays n) ∙ lock));
       drawn = λ stamp known.
-          subst (λ (callers : List Caller). list_any (λ (x : Caller). nat_le stamp x.clock) callers ≡ true)
+          subst (λ (callers : List (Caller O R)). list_any (λ (x : Caller O R). nat_le stamp x.clock) callers ≡ true)
           (sym (callers-change_cells (cell_told entry) base cells))
           (known_after s.turns c (caller_drawn entry (caller_at s.turns c)) stamp
           (omega (arith, later_drawn s.turns (Draw c cells entry) entry is.possible.may.core refl)) known);
@@ -175,22 +175,22 @@ module _ {S L P : Type 0} (F : Layouts S L P) (laws : AreLaws F) (declared : Lis
         ap (λ callers. get_or callers c fresh_caller) (callers-change_cells (cell_told entry) base cells)
         ∙ get_or-set_same s.turns.callers c (caller_drawn entry (caller_at s.turns c)) fresh_caller c_there ∙ ap (caller_drawn entry) k.cells.taker
 
-    note_after : (old : Note P) → IsNoted s.turns contents c old → IsNoted t told_contents c (told_note cells entry fresh old)
+    note_after : (old : Note P O R) → IsNoted s.turns contents c old → IsNoted t told_contents c (told_note cells entry fresh old)
     note_after old is' = go (names cells old.cell) refl where
       go : (b : Bool) → names cells old.cell ≡ b
           → IsNoted t told_contents c (cond b (record old { history = old.history ++ entry ∷ []; part = fresh old.cell }) old)
       go true e = record {
         held = lock_stays old.cell ∙ is'.held;
         away = home_stays old.cell ∙ is'.away;
-        history = ap (λ (x : Cell). x.history) (named old.cell e) ∙ ap (λ h. h ++ entry ∷ []) is'.history;
-        closed = ap (λ (x : Cell). x.closed) (named old.cell e) ∙ is'.closed;
+        history = ap (λ (x : Cell O R). x.history) (named old.cell e) ∙ ap (λ h. h ++ entry ∷ []) is'.history;
+        closed = ap (λ (x : Cell O R). x.closed) (named old.cell e) ∙ is'.closed;
         part = ap (λ b. cond b (fresh old.cell) (contents.part old.cell)) e;
       }
       go false e = record {
         held = lock_stays old.cell ∙ is'.held;
         away = home_stays old.cell ∙ is'.away;
-        history = ap (λ (x : Cell). x.history) (unnamed old.cell e) ∙ is'.history;
-        closed = ap (λ (x : Cell). x.closed) (unnamed old.cell e) ∙ is'.closed;
+        history = ap (λ (x : Cell O R). x.history) (unnamed old.cell e) ∙ is'.history;
+        closed = ap (λ (x : Cell O R). x.closed) (unnamed old.cell e) ∙ is'.closed;
         part = ap (λ b. cond b (fresh old.cell) (contents.part old.cell)) e ∙ is'.part;
       }
 
@@ -214,29 +214,29 @@ module _ {S L P : Type 0} (F : Layouts S L P) (laws : AreLaws F) (declared : Lis
         pass_drawn F.tag_of s t s.hands (kept_drawn s c false) r.beside told_contents id v k entry (told_notes cells entry fresh v.notes) v.abandoned v.handed cells
         (record {
           cells = knows;
-          kept_is = get_or-set_same s.kept c _ nothing_kept kept_there ∙ ap (λ (z : Kept). record z { found = None }) k.trace.kept;
+          kept_is = get_or-set_same s.kept c _ nothing_kept kept_there ∙ ap (λ (z : Kept R). record z { found = None }) k.trace.kept;
           timely = is.timely;
           handed_is = k.trace.handed;
           unhanded = k.trace.unhanded;
         })
 
-    few_after : EachPlace (λ d (x : Caller). length x.mine ≤ PASS_ENTRIES) t.callers
+    few_after : EachPlace (λ d (x : Caller O R). length x.mine ≤ PASS_ENTRIES) t.callers
     few_after =
-        subst (λ (xs : List Caller). EachPlace (λ d (x : Caller). length x.mine ≤ PASS_ENTRIES) xs) (sym (callers-change_cells (cell_told entry) base cells))
-        (EachPlace-set (λ d (x : Caller). length x.mine ≤ PASS_ENTRIES) s.turns.callers c (caller_drawn entry (caller_at s.turns c)) r.shows.few_entries
-        (let less = is.few in let more = length_push (caller_at s.turns c).mine entry in let same = ap (λ (x : Caller). length x.mine) k.cells.taker in omega (arith, less, more, same)))
+        subst (λ (xs : List (Caller O R)). EachPlace (λ d (x : Caller O R). length x.mine ≤ PASS_ENTRIES) xs) (sym (callers-change_cells (cell_told entry) base cells))
+        (EachPlace-set (λ d (x : Caller O R). length x.mine ≤ PASS_ENTRIES) s.turns.callers c (caller_drawn entry (caller_at s.turns c)) r.shows.few_entries
+        (let less = is.few in let more = length_push (caller_at s.turns c).mine entry in let same = ap (λ (x : Caller O R). length x.mine) k.cells.taker in omega (arith, less, more, same)))
 
-    cell_after : (n : ℕ) (y : Cell) → slice_get t.cells n ≡ Some y → IsCellShown (many_procs s) table.words table.homes told_contents n y
+    cell_after : (n : ℕ) (y : Cell O R) → slice_get t.cells n ≡ Some y → IsCellShown (many_procs s) table.words table.homes told_contents n y
     cell_after n y e =
         let was = at_changed (cell_told entry) base cells n y is.once e in
         subst (IsCellShown (many_procs s) table.words table.homes told_contents n) (sym was.becomes)
         (go (names cells n) refl was.before was.there) where
-          go : (b : Bool) → names cells n ≡ b → (x : Cell) → slice_get s.turns.cells n ≡ Some x
+          go : (b : Bool) → names cells n ≡ b → (x : Cell O R) → slice_get s.turns.cells n ≡ Some x
               → IsCellShown (many_procs s) table.words table.homes told_contents n (cond b (cell_told entry x) x)
           go true e' x here =
               let old = r.shows.cells n x here in
               let same : cell_at s.turns n ≡ x = get_or_from_slice_get s.turns.cells n x (fresh_cell 0) here in
-              let away : x.home ≡ false = ap (λ (z : Cell). z.home) (sym same) ∙ (taken n e').away in
+              let away : x.home ≡ false = ap (λ (z : Cell O R). z.home) (sym same) ∙ (taken n e').away in
               record {
                 lock = old.lock;
                 slot = λ place. let slot = old.slot place in (slot.0, slot.1, told_slot n x (cell_told entry x) (contents.part n) (told_contents.part n) slot.0 (contents.out n) x.home away slot.2);

@@ -38,16 +38,16 @@ use Rattle.k42_board.proofs.CellsTouched.{touch, alone_at}
 use Rattle.k42_board.proofs.OnePass.{with_pass, known}
 use Rattle.k42_board.proofs.KnownStamps.{known_after}
 
-module _ {S L P : Type 0} (F : Layouts S L P) (laws : AreLaws F) (declared : List L)
-    (table : State (Slot P) (View P)) (r : Rule F declared table) (id : ℕ) (v : PassView P)
+module _ {S L P O R : Type 0} (F : Layouts S L P O R) (laws : AreLaws F) (declared : List L)
+    (table : State (Slot P O R) (View P O R)) (r : Rule F declared table) (id : ℕ) (v : PassView P O R)
     (at : get_elem? table.views id ≡ some (Crew (v ∷ []))) (n : ℕ) where
-  abbrev s : Joined L
+  abbrev s : Joined L O R
   s = r.state
 
   abbrev c : ℕ
   c = v.number
 
-  abbrev x : Cell
+  abbrev x : Cell O R
   x = cell_at s.turns n
 
   abbrev i : ℕ
@@ -71,7 +71,7 @@ module _ {S L P : Type 0} (F : Layouts S L P) (laws : AreLaws F) (declared : Lis
   listed : names v.taker.held n ≡ true → IsHeld
   listed e =
       let own = r.sound.cells.turns.callers c (caller_at s.turns c) (slice_get-get_or s.turns.callers c fresh_caller c_there) in
-      let names' : names (caller_at s.turns c).held n ≡ true = ap (λ (y : Caller). names y.held n) knows.taker ∙ e in
+      let names' : names (caller_at s.turns c).held n ≡ true = ap (λ (y : Caller O R). names y.held n) knows.taker ∙ e in
       let held = own.holds n names' in
       record { there = own.there n names'; held = held; touched = r.sound.cells.locks.held n c held }
 
@@ -106,7 +106,7 @@ module _ {S L P : Type 0} (F : Layouts S L P) (laws : AreLaws F) (declared : Lis
 
   -- locking
 
-  abbrev pub IsLocked : ℕ → Caller → Type 0
+  abbrev pub IsLocked : ℕ → Caller O R → Type 0
   IsLocked new taker =
       (after : Rule F declared (with_pass table (set table.words i new) table.homes id (record v { taker = taker })))
       × (after.state ≡ effect s (AtCells (Lock c n))) × IsPossible F declared s (AtCells (Lock c n))
@@ -124,7 +124,7 @@ module _ {S L P : Type 0} (F : Layouts S L P) (laws : AreLaws F) (declared : Lis
     not_held : x.lock ≢ Some c
     not_held e =
         let listed' = (r.sound.cells.turns.cells n x at_n).held c e in
-        let unheld = ap (λ (y : Caller). names y.held n) knows.taker ∙ may.unheld in absurd (cc)
+        let unheld = ap (λ (y : Caller O R). names y.held n) knows.taker ∙ may.unheld in absurd (cc)
 
     -- each noted cell is one that it holds
     unnoted : names (cells_noted v.notes) n ≡ false
@@ -157,7 +157,7 @@ module _ {S L P : Type 0} (F : Layouts S L P) (laws : AreLaws F) (declared : Lis
       go : (b : Bool) → eqb found 0 ≡ b → IsLocked (cond b (c + 1) found) (cond b (caller_locked n v.taker) v.taker)
       go true e =
           let free = free_word x.lock (sym word ∙ eqb-true found 0 e) in
-          let callers : List Caller = set s.turns.callers c (caller_locked n (caller_at s.turns c)) in
+          let callers : List (Caller O R) = set s.turns.callers c (caller_locked n (caller_at s.turns c)) in
           let after =
           cell_moved F declared table r id v at n (c + 1) table.homes r.beside.contents (cell_locked c x) callers (caller_locked n v.taker) v.notes v.out
           (relock F laws declared table r id v at n lock_there touched (Some c) (c + 1) callers (caller_locked n v.taker) (home_free free x.home refl) idle
@@ -201,7 +201,7 @@ module _ {S L P : Type 0} (F : Layouts S L P) (laws : AreLaws F) (declared : Lis
   unlocks may idle =
       let is = listed may.held in
       let home = in_place is.held may.home in
-      let callers : List Caller = set s.turns.callers c (caller_unlocked n (caller_at s.turns c)) in
+      let callers : List (Caller O R) = set s.turns.callers c (caller_unlocked n (caller_at s.turns c)) in
       let after =
       cell_moved F declared table r id v at n 0 table.homes r.beside.contents (cell_unlocked x) callers (caller_unlocked n v.taker) v.notes v.out
       (relock F laws declared table r id v at n is.there is.touched None 0 callers (caller_unlocked n v.taker) home idle
@@ -213,7 +213,7 @@ module _ {S L P : Type 0} (F : Layouts S L P) (laws : AreLaws F) (declared : Lis
 
   -- taking: the slot of a cell at home has its content
 
-  pub take_found : HoldsHome n v → (content : code.Content P) × (get_elem? table.homes (slot_of n) ≡ some (some (Some content))) × (content.number ≡ n)
+  pub take_found : HoldsHome n v → (content : code.Content P O R) × (get_elem? table.homes (slot_of n) ≡ some (some (Some content))) × (content.number ≡ n)
   take_found may =
       let is = listed may.held in
       let has = has_content F laws declared table r id v at n is.there is.touched (in_place is.held may.home) in
@@ -222,7 +222,7 @@ module _ {S L P : Type 0} (F : Layouts S L P) (laws : AreLaws F) (declared : Lis
   pub may_take : HoldsHome n v → IsPossible F declared s (AtCells (Take c n))
   may_take may = let is = listed may.held in take_possible is (in_place is.held may.home)
 
-  pub takes_away : HoldsHome n v → v.out ≡ None → (content : code.Content P) → get_elem? table.homes (slot_of n) ≡ some (some (Some content))
+  pub takes_away : HoldsHome n v → v.out ≡ None → (content : code.Content P O R) → get_elem? table.homes (slot_of n) ≡ some (some (Some content))
       → (after : Rule F declared (with_pass table (set table.words i found) (set table.homes (slot_of n) none) id (lifted_view content v)))
       × (after.state ≡ effect s (AtCells (Take c n)))
   takes_away may idle content full =
@@ -247,13 +247,13 @@ module _ {S L P : Type 0} (F : Layouts S L P) (laws : AreLaws F) (declared : Lis
       s (λ k. record s { turns = before F laws declared table r id v at n is.there is.touched k }) r.sound
 
   -- a cell that it has taken, by its note
-  record IsAway (note : Note P) : Type 0 where
+  record IsAway (note : Note P O R) : Type 0 where
     held : IsHeld
     away : x.home ≡ false
     noted : IsNoted s.turns r.beside.contents c note
     named : note.cell ≡ n
 
-  away_by : (place : ℕ) (note : Note P) → slice_get v.notes place ≡ Some note → note.cell ≡ n → IsAway note
+  away_by : (place : ℕ) (note : Note P O R) → slice_get v.notes place ≡ Some note → note.cell ≡ n → IsAway note
   away_by place note e named =
       let is = knows.notes place note e in
       record {
@@ -263,10 +263,10 @@ module _ {S L P : Type 0} (F : Layouts S L P) (laws : AreLaws F) (declared : Lis
         named = named;
       }
 
-  pub note_there : (place : ℕ) (note : Note P) → slice_get v.notes place ≡ Some note → note.cell ≡ n → n < length s.turns.cells
+  pub note_there : (place : ℕ) (note : Note P O R) → slice_get v.notes place ≡ Some note → note.cell ≡ n → n < length s.turns.cells
   note_there place note e named = (away_by place note e named).held.there
 
-  pub may_put : (place : ℕ) (note : Note P) → slice_get v.notes place ≡ Some note → note.cell ≡ n → IsPossible F declared s (AtCells (Put c n))
+  pub may_put : (place : ℕ) (note : Note P O R) → slice_get v.notes place ≡ Some note → note.cell ≡ n → IsPossible F declared s (AtCells (Put c n))
   may_put place note e named = let is = away_by place note e named in put_possible is.held is.away
 
   slot_inside : v.out ≡ None → x.lock ≡ Some c → r.beside.contents.out n ≡ false
@@ -276,7 +276,7 @@ module _ {S L P : Type 0} (F : Layouts S L P) (laws : AreLaws F) (declared : Lis
     go true e = let out = knows.only n held e in absurd (cc)
 
   -- the slot of a cell that was taken is empty
-  pub reach_found : v.out ≡ None → (place : ℕ) (note : Note P) → slice_get v.notes place ≡ Some note → note.cell ≡ n
+  pub reach_found : v.out ≡ None → (place : ℕ) (note : Note P O R) → slice_get v.notes place ≡ Some note → note.cell ≡ n
       → get_elem? table.homes (slot_of n) ≡ some (some None)
   reach_found idle place note e named =
       let is = away_by place note e named in
@@ -285,7 +285,7 @@ module _ {S L P : Type 0} (F : Layouts S L P) (laws : AreLaws F) (declared : Lis
       slot.1
       ∙ ap some (subst (λ (z : Bool × Bool). IsSlot n x (r.beside.contents.part n) slot.0 z.0 z.1) (λ k. (slot_inside idle is.held.held k, is.away k)) slot.2)
 
-  pub reaches : v.out ≡ None → (place : ℕ) (note : Note P) → slice_get v.notes place ≡ Some note → note.cell ≡ n
+  pub reaches : v.out ≡ None → (place : ℕ) (note : Note P O R) → slice_get v.notes place ≡ Some note → note.cell ≡ n
       → (after : Rule F declared (with_pass table (set table.words i found) (set table.homes (slot_of n) none) id (reaching_view n v)))
       × (after.state ≡ s)
   reaches idle place note e named =
@@ -297,7 +297,7 @@ module _ {S L P : Type 0} (F : Layouts S L P) (laws : AreLaws F) (declared : Lis
       s (λ k. record s { turns = before F laws declared table r id v at n is.held.there is.held.touched k }) r.sound
 
   -- and comes back with the content
-  pub puts : v.out ≡ Some n → (place : ℕ) (note : Note P) → slice_get v.notes place ≡ Some note → note.cell ≡ n → (content : code.Content P)
+  pub puts : v.out ≡ Some n → (place : ℕ) (note : Note P O R) → slice_get v.notes place ≡ Some note → note.cell ≡ n → (content : code.Content P O R)
       → IsCell n note.history note.closed content.part content → IsPart F declared s n content.part
       → (after : Rule F declared (with_pass table (set table.words i found) (set table.homes (slot_of n) (some (Some content))) id (put_view n v)))
       × (after.state ≡ effect s (AtCells (Put c n)))
@@ -309,5 +309,5 @@ module _ {S L P : Type 0} (F : Layouts S L P) (laws : AreLaws F) (declared : Lis
       (record { part = written r.beside.contents.part n content.part; out = written r.beside.contents.out n false }) (cell_put x) s.turns.callers v.taker
       (without n v.notes) None
       (put_move F laws declared table r id v at n is.held.there is.held.touched is.held.held out is.away content
-      (subst (λ (z : List Entry × Bool). IsCell n z.0 z.1 content.part content) (λ k. (sym history k, sym closed k)) whole) part)
+      (subst (λ (z : List (Entry O R) × Bool). IsCell n z.0 z.1 content.part content) (λ k. (sym history k, sym closed k)) whole) part)
       (effect s (AtCells (Put c n))) refl (joined_keeps F laws declared s r.sound (AtCells (Put c n)) (put_possible is.held is.away))

@@ -55,42 +55,42 @@ some_one : (c d : ℕ) → Some c ≡ Some d → c ≡ d
 some_one c d e = cc
 
 -- a cell whose life may begin has the entry alone after it
-pub record HasBegun (entry : Entry) (x : Cell) : Type 0 where
+pub record HasBegun {O R : Type 0} (entry : Entry O R) (x : Cell O R) : Type 0 where
   pub history : x.history ≡ entry ∷ []
   pub closed : x.closed ≡ false
 
-empty_is : (entries : List Entry) → is_empty entries ≡ true → entries ≡ []
+empty_is : {O R : Type 0} (entries : List (Entry O R)) → is_empty entries ≡ true → entries ≡ []
 empty_is [] e = refl
 empty_is (entry ∷ entries) e = absurd (cc)
 
-pub has_begun : (entry : Entry) (x : Cell) → may_begin x ≡ true → HasBegun entry (cell_begun entry x)
+pub has_begun : {O R : Type 0} (entry : Entry O R) (x : Cell O R) → may_begin x ≡ true → HasBegun entry (cell_begun entry x)
 has_begun entry x = go x.closed refl where
   go : (b : Bool) → x.closed ≡ b → cond b (ltb x.life (2 ^ 32 - 2)) (is_empty x.history) ≡ true
       → HasBegun entry (cond b (cell_told entry (cell_opened x)) (cell_told entry x))
   go true is may = record { history = refl; closed = refl }
   go false is may = record { history = ap (λ h. h ++ entry ∷ []) (empty_is x.history may); closed = is }
 
-pub begun_lock : (entry : Entry) (x : Cell) → (cell_begun entry x).lock ≡ x.lock
+pub begun_lock : {O R : Type 0} (entry : Entry O R) (x : Cell O R) → (cell_begun entry x).lock ≡ x.lock
 begun_lock entry x = go x.closed where
   go : (closed : Bool) → (cond closed (cell_told entry (cell_opened x)) (cell_told entry x)).lock ≡ x.lock
   go true = refl
   go false = refl
 
-pub begun_home : (entry : Entry) (x : Cell) → (cell_begun entry x).home ≡ x.home
+pub begun_home : {O R : Type 0} (entry : Entry O R) (x : Cell O R) → (cell_begun entry x).home ≡ x.home
 begun_home entry x = go x.closed where
   go : (closed : Bool) → (cond closed (cell_told entry (cell_opened x)) (cell_told entry x)).home ≡ x.home
   go true = refl
   go false = refl
 
 -- a note is as the hand says
-pub each_handed : {P : Type 0} (from onto : List ℕ) (entry : Entry) (fresh : ℕ → Option P) (notes : List (Note P)) (i : ℕ) (note : Note P)
+pub each_handed : {P O R : Type 0} (from onto : List ℕ) (entry : Entry O R) (fresh : ℕ → Option P) (notes : List (Note P O R)) (i : ℕ) (note : Note P O R)
     → slice_get (map (handed_note from onto entry fresh) notes) i ≡ Some note
-    → (old : Note P) × (slice_get notes i ≡ Some old) × (note ≡ handed_note from onto entry fresh old)
+    → (old : Note P O R) × (slice_get notes i ≡ Some old) × (note ≡ handed_note from onto entry fresh old)
 each_handed from onto entry fresh [] i note e = absurd (cc)
 each_handed from onto entry fresh (first ∷ notes) zero note e = (first, refl, sym (same_Some _ note e))
 each_handed from onto entry fresh (first ∷ notes) (suc i) note e = each_handed from onto entry fresh notes i note e
 
-pub handed_cells : {P : Type 0} (from onto : List ℕ) (entry : Entry) (fresh : ℕ → Option P) (notes : List (Note P))
+pub handed_cells : {P O R : Type 0} (from onto : List ℕ) (entry : Entry O R) (fresh : ℕ → Option P) (notes : List (Note P O R))
     → cells_noted (map (handed_note from onto entry fresh) notes) ≡ cells_noted notes
 handed_cells from onto entry fresh [] = refl
 handed_cells from onto entry fresh (first ∷ notes) = go (names from first.cell) (names onto first.cell) (handed_cells from onto entry fresh notes) where
@@ -102,7 +102,7 @@ handed_cells from onto entry fresh (first ∷ notes) = go (names from first.cell
   go false false rest = ap (λ xs. first.cell ∷ xs) rest
 
 -- the slot of a cell that is away says nothing of its history and its part
-away_slot : {P : Type 0} (n : ℕ) (x y : Cell) (part part' : Option P) (slot : maybe.Option (Slot P)) (out home : Bool) → home ≡ false
+away_slot : {P O R : Type 0} (n : ℕ) (x y : Cell O R) (part part' : Option P) (slot : maybe.Option (Slot P O R)) (out home : Bool) → home ≡ false
     → IsSlot n x part slot out home → IsSlot n y part' slot out home
 away_slot n x y part part' slot out true e is = absurd (cc)
 away_slot n x y part part' slot true false e is = is
@@ -112,10 +112,10 @@ moved_names : (swap : SwapAt) → is_moved swap ≡ true → named_by swap ≡ S
 moved_names (Moved o) e = refl
 moved_names swap e = absurd (cc)
 
-module _ {S L P : Type 0} (F : Layouts S L P) (laws : AreLaws F) (declared : List L)
-    (table : State (Slot P) (View P)) (r : Rule F declared table) (id : ℕ) (v : PassView P)
-    (at : get_elem? table.views id ≡ some (Crew (v ∷ []))) (from onto : List ℕ) (to : L) (entry : Entry) (fresh : ℕ → Option P) where
-  abbrev s : Joined L
+module _ {S L P O R : Type 0} (F : Layouts S L P O R) (laws : AreLaws F) (declared : List L)
+    (table : State (Slot P O R) (View P O R)) (r : Rule F declared table) (id : ℕ) (v : PassView P O R)
+    (at : get_elem? table.views id ≡ some (Crew (v ∷ []))) (from onto : List ℕ) (to : L) (entry : Entry O R) (fresh : ℕ → Option P) where
+  abbrev s : Joined L O R
   s = r.state
 
   abbrev c : ℕ
@@ -127,19 +127,19 @@ module _ {S L P : Type 0} (F : Layouts S L P) (laws : AreLaws F) (declared : Lis
   abbrev pub handed_contents : Contents P
   handed_contents = record contents { part = λ n. cond (names from n) (fresh n) (cond (names onto n) (fresh n) (contents.part n)) }
 
-  abbrev base : Turns
+  abbrev base : Turns O R
   base = change_caller (caller_drawn entry) s.turns c
 
-  abbrev begun : Turns
+  abbrev begun : Turns O R
   begun = change_cells (cell_begun entry) base onto
 
-  abbrev pub t : Turns
+  abbrev pub t : Turns O R
   t = turns.effect s.turns (Hand c from onto entry)
 
-  abbrev w : PassView P
+  abbrev w : PassView P O R
   w = untold_view (from ++ onto) (handed_view from onto entry (F.tag_of to) fresh v)
 
-  abbrev after : Joined L
+  abbrev after : Joined L O R
   after = effect s (HandWith c from onto to entry)
 
   k : KnowsPass F.tag_of s r.beside id v
@@ -224,16 +224,16 @@ module _ {S L P : Type 0} (F : Layouts S L P) (laws : AreLaws F) (declared : Lis
     lock_stays : (n : ℕ) → (cell_at t n).lock ≡ (cell_at s.turns n).lock
     lock_stays n =
         by_names (λ m. (cell_at t m).lock ≡ (cell_at s.turns m).lock) n
-        (λ e. ap (λ (x : Cell). x.lock) (at_from n e))
-        (λ not e. ap (λ (x : Cell). x.lock) (at_onto n not e) ∙ begun_lock entry (cell_at s.turns n))
-        (λ not not'. ap (λ (x : Cell). x.lock) (at_else n not not'))
+        (λ e. ap (λ (x : Cell O R). x.lock) (at_from n e))
+        (λ not e. ap (λ (x : Cell O R). x.lock) (at_onto n not e) ∙ begun_lock entry (cell_at s.turns n))
+        (λ not not'. ap (λ (x : Cell O R). x.lock) (at_else n not not'))
 
     home_stays : (n : ℕ) → (cell_at t n).home ≡ (cell_at s.turns n).home
     home_stays n =
         by_names (λ m. (cell_at t m).home ≡ (cell_at s.turns m).home) n
-        (λ e. ap (λ (x : Cell). x.home) (at_from n e))
-        (λ not e. ap (λ (x : Cell). x.home) (at_onto n not e) ∙ begun_home entry (cell_at s.turns n))
-        (λ not not'. ap (λ (x : Cell). x.home) (at_else n not not'))
+        (λ e. ap (λ (x : Cell O R). x.home) (at_from n e))
+        (λ not e. ap (λ (x : Cell O R). x.home) (at_onto n not e) ∙ begun_home entry (cell_at s.turns n))
+        (λ not not'. ap (λ (x : Cell O R). x.home) (at_else n not not'))
 
     stays_other : (n d : ℕ) → d ≢ c → (cell_at s.turns n).lock ≡ Some d → StaysAt F declared table r id v at t handed_contents n
     stays_other n d not lock =
@@ -254,7 +254,7 @@ module _ {S L P : Type 0} (F : Layouts S L P) (laws : AreLaws F) (declared : Lis
       held = stays_other;
       holds = λ n d not lock. stays_other n d not (sym (lock_stays n) ∙ lock);
       drawn = λ stamp known.
-          subst (λ (callers : List Caller). list_any (λ (x : Caller). nat_le stamp x.clock) callers ≡ true) (sym callers_are)
+          subst (λ (callers : List (Caller O R)). list_any (λ (x : Caller O R). nat_le stamp x.clock) callers ≡ true) (sym callers_are)
           (known_after s.turns c (caller_drawn entry (caller_at s.turns c)) stamp
           (omega (arith, later_drawn s.turns (Hand c from onto entry) entry is.possible.may.core refl)) known);
     }
@@ -272,7 +272,7 @@ module _ {S L P : Type 0} (F : Layouts S L P) (laws : AreLaws F) (declared : Lis
     swap_is = ap (λ (z : Visitor). z.swap) k.phases.visitor ∙ is.moves
 
     -- nobody else moves the object
-    moves_other : (j : ℕ) (x : PassView P) → x.number ≢ c → KnowsPass F.tag_of s r.beside j x → is_moved x.visitor.swap ≡ true
+    moves_other : (j : ℕ) (x : PassView P O R) → x.number ≢ c → KnowsPass F.tag_of s r.beside j x → is_moved x.visitor.swap ≡ true
         → object_named x.visitor.swap ≢ entry.object
     moves_other j x not was moved' same =
         not ((one_swap s.phases r.sound.phases entry.object is.named).one x.number c was.there k.there
@@ -311,15 +311,15 @@ module _ {S L P : Type 0} (F : Layouts S L P) (laws : AreLaws F) (declared : Lis
           drawn = still.drawn;
         }
 
-    note_after : (old : Note P) → IsNoted s.turns contents c old → IsNoted t handed_contents c (handed_note from onto entry fresh old)
+    note_after : (old : Note P O R) → IsNoted s.turns contents c old → IsNoted t handed_contents c (handed_note from onto entry fresh old)
     note_after old is' = go (names from old.cell) (names onto old.cell) refl refl where
       go : (a b : Bool) → names from old.cell ≡ a → names onto old.cell ≡ b
           → IsNoted t handed_contents c (cond a (record old { closed = true; part = fresh old.cell }) (cond b (record old { closed = false; history = entry ∷ []; part = fresh old.cell }) old))
       go true b e f = record {
         held = lock_stays old.cell ∙ is'.held;
         away = home_stays old.cell ∙ is'.away;
-        history = ap (λ (x : Cell). x.history) (at_from old.cell e) ∙ is'.history;
-        closed = ap (λ (x : Cell). x.closed) (at_from old.cell e);
+        history = ap (λ (x : Cell O R). x.history) (at_from old.cell e) ∙ is'.history;
+        closed = ap (λ (x : Cell O R). x.closed) (at_from old.cell e);
         part = part_from old.cell e;
       }
       go false true e f =
@@ -327,15 +327,15 @@ module _ {S L P : Type 0} (F : Layouts S L P) (laws : AreLaws F) (declared : Lis
           record {
             held = lock_stays old.cell ∙ is'.held;
             away = home_stays old.cell ∙ is'.away;
-            history = ap (λ (x : Cell). x.history) (at_onto old.cell e f) ∙ begun'.history;
-            closed = ap (λ (x : Cell). x.closed) (at_onto old.cell e f) ∙ begun'.closed;
+            history = ap (λ (x : Cell O R). x.history) (at_onto old.cell e f) ∙ begun'.history;
+            closed = ap (λ (x : Cell O R). x.closed) (at_onto old.cell e f) ∙ begun'.closed;
             part = part_onto old.cell e f;
           }
       go false false e f = record {
         held = lock_stays old.cell ∙ is'.held;
         away = home_stays old.cell ∙ is'.away;
-        history = ap (λ (x : Cell). x.history) (at_else old.cell e f) ∙ is'.history;
-        closed = ap (λ (x : Cell). x.closed) (at_else old.cell e f) ∙ is'.closed;
+        history = ap (λ (x : Cell O R). x.history) (at_else old.cell e f) ∙ is'.history;
+        closed = ap (λ (x : Cell O R). x.closed) (at_else old.cell e f) ∙ is'.closed;
         part = part_else old.cell e f ∙ is'.part;
       }
 
@@ -363,7 +363,7 @@ module _ {S L P : Type 0} (F : Layouts S L P) (laws : AreLaws F) (declared : Lis
         v.abandoned (Some (F.tag_of to)) (from ++ onto)
         (record {
           cells = knows;
-          kept_is = get_or-set_same s.kept c _ nothing_kept kept_there ∙ ap (λ (z : Kept). record z { found = None }) k.trace.kept;
+          kept_is = get_or-set_same s.kept c _ nothing_kept kept_there ∙ ap (λ (z : Kept R). record z { found = None }) k.trace.kept;
           timely = λ generation e. let no = is.untimed in absurd (cc);
           handed_is = λ tag e. (
             ap is_moved is.moves,
@@ -373,36 +373,36 @@ module _ {S L P : Type 0} (F : Layouts S L P) (laws : AreLaws F) (declared : Lis
           unhanded = λ e moved'. absurd (cc);
         })
 
-    few_after : EachPlace (λ d (x : Caller). length x.mine ≤ PASS_ENTRIES) t.callers
+    few_after : EachPlace (λ d (x : Caller O R). length x.mine ≤ PASS_ENTRIES) t.callers
     few_after =
-        subst (λ (xs : List Caller). EachPlace (λ d (x : Caller). length x.mine ≤ PASS_ENTRIES) xs) (sym callers_are)
-        (EachPlace-set (λ d (x : Caller). length x.mine ≤ PASS_ENTRIES) s.turns.callers c (caller_drawn entry (caller_at s.turns c)) r.shows.few_entries
-        (let less = is.few in let more = length_push (caller_at s.turns c).mine entry in let same = ap (λ (x : Caller). length x.mine) k.cells.taker in omega (arith, less, more, same)))
+        subst (λ (xs : List (Caller O R)). EachPlace (λ d (x : Caller O R). length x.mine ≤ PASS_ENTRIES) xs) (sym callers_are)
+        (EachPlace-set (λ d (x : Caller O R). length x.mine ≤ PASS_ENTRIES) s.turns.callers c (caller_drawn entry (caller_at s.turns c)) r.shows.few_entries
+        (let less = is.few in let more = length_push (caller_at s.turns c).mine entry in let same = ap (λ (x : Caller O R). length x.mine) k.cells.taker in omega (arith, less, more, same)))
 
     -- the cells that are shown
-    cell_after : (n : ℕ) (y : Cell) → slice_get t.cells n ≡ Some y → IsCellShown (many_procs s) table.words table.homes handed_contents n y
+    cell_after : (n : ℕ) (y : Cell O R) → slice_get t.cells n ≡ Some y → IsCellShown (many_procs s) table.words table.homes handed_contents n y
     cell_after n y e =
         let here : cell_at t n ≡ y = get_or_from_slice_get t.cells n y (fresh_cell 0) e in
         let lt : n < length s.turns.cells = let within = slice_get_within t.cells n y e in let long = handed_long in omega (arith, within, long) in
         let x = cell_at s.turns n in
         let old = r.shows.cells n x (slice_get-get_or s.turns.cells n (fresh_cell 0) lt) in
         record {
-          lock = old.lock ∙ ap holder_value (sym (lock_stays n) ∙ ap (λ (z : Cell). z.lock) here);
+          lock = old.lock ∙ ap holder_value (sym (lock_stays n) ∙ ap (λ (z : Cell O R). z.lock) here);
           slot = λ place. let slot = old.slot place in (slot.0, slot.1, slot_after n y here slot.0 slot.2);
         }
       where
-        slot_after : (n : ℕ) (y : Cell) → cell_at t n ≡ y → (slot : maybe.Option (Slot P)) → IsSlot n (cell_at s.turns n) (contents.part n) slot (contents.out n) (cell_at s.turns n).home
+        slot_after : (n : ℕ) (y : Cell O R) → cell_at t n ≡ y → (slot : maybe.Option (Slot P O R)) → IsSlot n (cell_at s.turns n) (contents.part n) slot (contents.out n) (cell_at s.turns n).home
             → IsSlot n y (handed_contents.part n) slot (contents.out n) y.home
         slot_after n y here slot was =
-            let home : y.home ≡ (cell_at s.turns n).home = ap (λ (z : Cell). z.home) (sym here) ∙ home_stays n in
-            by_names (λ m. IsSlot m (cell_at s.turns m) (contents.part m) slot (contents.out m) (cell_at s.turns m).home → (y' : Cell) → cell_at t m ≡ y' → y'.home ≡ (cell_at s.turns m).home
+            let home : y.home ≡ (cell_at s.turns n).home = ap (λ (z : Cell O R). z.home) (sym here) ∙ home_stays n in
+            by_names (λ m. IsSlot m (cell_at s.turns m) (contents.part m) slot (contents.out m) (cell_at s.turns m).home → (y' : Cell O R) → cell_at t m ≡ y' → y'.home ≡ (cell_at s.turns m).home
             → IsSlot m y' (handed_contents.part m) slot (contents.out m) y'.home) n
             (λ e was' y' here' home'. subst (λ h. IsSlot n y' (handed_contents.part n) slot (contents.out n) h) (sym home')
             (away_slot n (cell_at s.turns n) y' (contents.part n) (handed_contents.part n) slot (contents.out n) (cell_at s.turns n).home (taken n (is.noted_from n e)).away was'))
             (λ no e was' y' here' home'. subst (λ h. IsSlot n y' (handed_contents.part n) slot (contents.out n) h) (sym home')
             (away_slot n (cell_at s.turns n) y' (contents.part n) (handed_contents.part n) slot (contents.out n) (cell_at s.turns n).home (taken n (is.noted_onto n e)).away was'))
             (λ no no' was' y' here' home'.
-            subst (λ (z : Cell × Option P). IsSlot n z.0 z.1 slot (contents.out n) z.0.home) (λ i. ((sym (at_else n no no') ∙ here') i, sym (part_else n no no') i)) was')
+            subst (λ (z : Cell O R × Option P). IsSlot n z.0 z.1 slot (contents.out n) z.0.home) (λ i. ((sym (at_else n no no') ∙ here') i, sym (part_else n no no') i)) was')
             was y here home
 
     -- the rule after the step, and its state

@@ -45,7 +45,7 @@ use Rattle.k42_board.proofs.CellsApart.{generations_apart, objects_apart, locks_
 use Rattle.k42_board.proofs.OnePass.{with_pass, known, LeavesOthers, moved}
 
 -- the state with these cells, and what is kept of callers
-abbrev pub moved_to : {L : Type 0} → Joined L → Turns → List Kept → Joined L
+abbrev pub moved_to : {L O R : Type 0} → Joined L O R → Turns O R → List (Kept R) → Joined L O R
 moved_to s turns kept = record s { turns = turns; kept = kept }
 
 -- and where the cells have this
@@ -53,14 +53,14 @@ abbrev pub with_contents : {P : Type 0} → Beside P → Contents P → Beside P
 with_contents beside contents = record beside { contents = contents }
 
 -- the parts that are due are as before, where no history and no life changed
-told_histories : (x y : Cell) → IsSameTold x y → histories_of y ≡ histories_of x
+told_histories : {O R : Type 0} (x y : Cell O R) → IsSameTold x y → histories_of y ≡ histories_of x
 told_histories x y same = ap (λ past. past ++ y.history ∷ []) same.past ∙ ap (λ history. x.past ++ history ∷ []) same.history
 
-module _ {L : Type 0} (s : Joined L) (t : Turns) (kept : List Kept) (told : (m : ℕ) → IsSameTold (cell_at s.turns m) (cell_at t m)) where
+module _ {L O R : Type 0} (s : Joined L O R) (t : Turns O R) (kept : List (Kept R)) (told : (m : ℕ) → IsSameTold (cell_at s.turns m) (cell_at t m)) where
   history_same : (o : ℕ) → history_in (moved_to s t kept) o ≡ history_in s o
   history_same o = λ i row p. get_or (told_histories (cell_at s.turns (cell_of o row p)) (cell_at t (cell_of o row p)) (told (cell_of o row p)) i) (row / 2) []
 
-  pub part_stays : {S P : Type 0} (F : Layouts S L P) (declared : List L) (n : ℕ) (part : Option P)
+  pub part_stays : {S P : Type 0} (F : Layouts S L P O R) (declared : List L) (n : ℕ) (part : Option P)
       → IsPart F declared s n part → IsPart F declared (moved_to s t kept) n part
   part_stays {S} {P} F declared n part is =
       let life : (cell_at t n).life ≡ (cell_at s.turns n).life = (told n).life in
@@ -68,7 +68,7 @@ module _ {L : Type 0} (s : Joined L) (t : Turns) (kept : List Kept) (told : (m :
         due = λ declaration chain row declares rows here freed.
             is.due declaration chain row declares
             (record {
-              fits = subst (λ (h : ℕ → ℕ → List Entry). Fits F declaration (object_of n) h chain) (history_same (object_of n)) rows.fits;
+              fits = subst (λ (h : ℕ → ℕ → List (Entry O R)). Fits F declaration (object_of n) h chain) (history_same (object_of n)) rows.fits;
               layouts = rows.layouts;
             })
             (ap (row_in chain) (sym life) ∙ here) (subst (λ (l : ℕ). (object_at s.phases (object_of n)).freed ≤ l) life freed);
@@ -81,7 +81,7 @@ pub names_stay : {P : Type 0} (beside : Beside P) (contents : Contents P) (id : 
 names_stay beside contents id rows is = record { named = is.named; once = is.once }
 
 -- the pass with other notes of cells and entries
-abbrev pub re_noted : {P : Type 0} → PassView P → Caller → Option Answer → Bool → Option ℕ → List (Note P) → Option ℕ → List ℕ → PassView P
+abbrev pub re_noted : {P O R : Type 0} → PassView P O R → Caller O R → Option (Answer R) → Bool → Option ℕ → List (Note P O R) → Option ℕ → List ℕ → PassView P O R
 re_noted v taker found abandoned handed notes out untold = record v {
   taker = taker;
   found = found;
@@ -93,7 +93,7 @@ re_noted v taker found abandoned handed notes out untold = record v {
 }
 
 -- what it knows of generations, and of its call, its swap and its rows, does not hang on these
-module _ {P : Type 0} (v : PassView P) (taker : Caller) (found : Option Answer) (abandoned : Bool) (handed : Option ℕ) (notes : List (Note P)) (out : Option ℕ)
+module _ {P O R : Type 0} (v : PassView P O R) (taker : Caller O R) (found : Option (Answer R)) (abandoned : Bool) (handed : Option ℕ) (notes : List (Note P O R)) (out : Option ℕ)
     (untold : List ℕ) where
   pub generations_stay : (g : Generations) (counts : Counts) → KnowsGenerations g counts v
       → KnowsGenerations g counts (re_noted v taker found abandoned handed notes out untold)
@@ -109,7 +109,7 @@ module _ {P : Type 0} (v : PassView P) (taker : Caller) (found : Option Answer) 
   }
 
 -- no view is shown
-pub shows_again : {L P : Type 0} (s : Joined L) (beside : Beside P) (table : State (Slot P) (View P)) (words : List ℕ) (id : ℕ) (w : PassView P) → Shows s beside table
+pub shows_again : {L P O R : Type 0} (s : Joined L O R) (beside : Beside P) (table : State (Slot P O R) (View P O R)) (words : List ℕ) (id : ℕ) (w : PassView P O R) → Shows s beside table
     → words ≡ table.words → Shows s beside (with_pass table words table.homes id w)
 shows_again s beside table words id w shows same =
     subst (λ (z : List ℕ). Shows s beside (with_pass table z table.homes id w)) (sym same) (record {
@@ -123,28 +123,28 @@ shows_again s beside table words id w shows same =
     })
 
 -- no caller has drawn more entries than are counted
-pub few_drawn : (callers : List Caller) → EachPlace (λ c x. length x.mine ≤ PASS_ENTRIES) callers → (d : ℕ) → length (get_or callers d fresh_caller).mine ≤ PASS_ENTRIES
+pub few_drawn : {O R : Type 0} (callers : List (Caller O R)) → EachPlace (λ c x. length x.mine ≤ PASS_ENTRIES) callers → (d : ℕ) → length (get_or callers d fresh_caller).mine ≤ PASS_ENTRIES
 few_drawn [] few d = omega arith
 few_drawn (x ∷ callers) few zero = few 0 x refl
 few_drawn (x ∷ callers) few (suc d) = few_drawn callers (λ c y e. few (suc c) y e) d
 
-pub same_told' : (x : Cell) → IsSameTold x x
+pub same_told' : {O R : Type 0} (x : Cell O R) → IsSameTold x x
 same_told' x = record { closed = refl; life = refl; history = refl; past = refl }
 
-module _ {S L P : Type 0} (F : Layouts S L P) (declared : List L)
-    (table : State (Slot P) (View P)) (r : Rule F declared table) (id : ℕ) (v : PassView P)
+module _ {S L P O R : Type 0} (F : Layouts S L P O R) (declared : List L)
+    (table : State (Slot P O R) (View P O R)) (r : Rule F declared table) (id : ℕ) (v : PassView P O R)
     (at : get_elem? table.views id ≡ some (Crew (v ∷ []))) where
-  abbrev s : Joined L
+  abbrev s : Joined L O R
   s = r.state
 
   -- a cell, its part and its slot stay
-  pub record StaysAt (t : Turns) (contents : Contents P) (n : ℕ) : Type 0 where
+  pub record StaysAt (t : Turns O R) (contents : Contents P) (n : ℕ) : Type 0 where
     pub cell : cell_at t n ≡ cell_at s.turns n
     pub part : contents.part n ≡ r.beside.contents.part n
     pub out : contents.out n ≡ r.beside.contents.out n
 
   -- what a step on cells leaves of other callers: what they hold stays, and they come to hold nothing
-  pub record LeavesCells (t : Turns) (kept : List Kept) (contents : Contents P) : Type 0 where
+  pub record LeavesCells (t : Turns O R) (kept : List (Kept R)) (contents : Contents P) : Type 0 where
     pub callers : (d : ℕ) → d ≢ v.number → caller_at t d ≡ caller_at s.turns d
     pub keeps : (d : ℕ) → d ≢ v.number → kept_of (moved_to s t kept) d ≡ kept_of s d
     pub held : (n d : ℕ) → d ≢ v.number → (cell_at s.turns n).lock ≡ Some d → StaysAt t contents n
@@ -152,38 +152,38 @@ module _ {S L P : Type 0} (F : Layouts S L P) (declared : List L)
     -- and no clock falls
     pub drawn : (stamp : ℕ) → is_known s.turns stamp ≡ true → is_known t stamp ≡ true
 
-  module _ (t : Turns) (kept : List Kept) (contents : Contents P) (leaves : LeavesCells t kept contents) where
-    note_stays : (c : ℕ) (note : Note P) → c ≢ v.number → IsNoted s.turns r.beside.contents c note → IsNoted t contents c note
+  module _ (t : Turns O R) (kept : List (Kept R)) (contents : Contents P) (leaves : LeavesCells t kept contents) where
+    note_stays : (c : ℕ) (note : Note P O R) → c ≢ v.number → IsNoted s.turns r.beside.contents c note → IsNoted t contents c note
     note_stays c note not is =
         let stays = leaves.held note.cell c not is.held in
         record {
-          held = ap (λ (x : Cell). x.lock) stays.cell ∙ is.held;
-          away = ap (λ (x : Cell). x.home) stays.cell ∙ is.away;
-          history = ap (λ (x : Cell). x.history) stays.cell ∙ is.history;
-          closed = ap (λ (x : Cell). x.closed) stays.cell ∙ is.closed;
+          held = ap (λ (x : Cell O R). x.lock) stays.cell ∙ is.held;
+          away = ap (λ (x : Cell O R). x.home) stays.cell ∙ is.away;
+          history = ap (λ (x : Cell O R). x.history) stays.cell ∙ is.history;
+          closed = ap (λ (x : Cell O R). x.closed) stays.cell ∙ is.closed;
           part = stays.part ∙ is.part;
         }
 
-    cells_stay_known : (x : PassView P) → x.number ≢ v.number → KnowsCells s.turns r.beside.contents x → KnowsCells t contents x
+    cells_stay_known : (x : PassView P O R) → x.number ≢ v.number → KnowsCells s.turns r.beside.contents x → KnowsCells t contents x
     cells_stay_known x not knows = record {
       taker = leaves.callers x.number not ∙ knows.taker;
       notes = λ place note e. note_stays x.number note not (knows.notes place note e);
       noted = λ n lock home.
           let stays = leaves.holds n x.number not lock in
-          knows.noted n (sym (ap (λ (y : Cell). y.lock) stays.cell) ∙ lock) (sym (ap (λ (y : Cell). y.home) stays.cell) ∙ home);
+          knows.noted n (sym (ap (λ (y : Cell O R). y.lock) stays.cell) ∙ lock) (sym (ap (λ (y : Cell O R). y.home) stays.cell) ∙ home);
       out = λ n e.
           let is = knows.out n e in let stays = leaves.held n x.number not is.held in
           record {
-            held = ap (λ (y : Cell). y.lock) stays.cell ∙ is.held;
-            away = ap (λ (y : Cell). y.home) stays.cell ∙ is.away;
+            held = ap (λ (y : Cell O R). y.lock) stays.cell ∙ is.held;
+            away = ap (λ (y : Cell O R). y.home) stays.cell ∙ is.away;
             out = stays.out ∙ is.out;
           };
       only = λ n lock out.
           let stays = leaves.holds n x.number not lock in
-          knows.only n (sym (ap (λ (y : Cell). y.lock) stays.cell) ∙ lock) (sym stays.out ∙ out);
+          knows.only n (sym (ap (λ (y : Cell O R). y.lock) stays.cell) ∙ lock) (sym stays.out ∙ out);
     }
 
-    trace_stays_known : (x : PassView P) → x.number ≢ v.number → KnowsTrace F.tag_of s x → KnowsTrace F.tag_of (moved_to s t kept) x
+    trace_stays_known : (x : PassView P O R) → x.number ≢ v.number → KnowsTrace F.tag_of s x → KnowsTrace F.tag_of (moved_to s t kept) x
     trace_stays_known x not knows = record {
       kept = leaves.keeps x.number not ∙ knows.kept;
       found = knows.found;
@@ -220,7 +220,7 @@ module _ {S L P : Type 0} (F : Layouts S L P) (declared : List L)
   few_cells = let many = r.sound.cells.locks.many.cells in let few = r.shows.few_objects in omega (arith, many, few)
 
   -- one cell became another, with its word, its slot and its part
-  pub record OneCell (n new : ℕ) (homes : List (maybe.Option (Slot P))) (contents : Contents P) (y : Cell) : Type 0 where
+  pub record OneCell (n new : ℕ) (homes : List (maybe.Option (Slot P O R))) (contents : Contents P) (y : Cell O R) : Type 0 where
     pub there : n < length s.turns.cells
     pub many : length homes ≡ length table.homes
     pub slots : (k : ℕ) → k ≢ slot_of n → get_elem? homes k ≡ get_elem? table.homes k
@@ -228,7 +228,7 @@ module _ {S L P : Type 0} (F : Layouts S L P) (declared : List L)
     pub outs : (m : ℕ) → m ≢ n → contents.out m ≡ r.beside.contents.out m
     pub shown : IsCellShown (many_procs s) (set table.words (lock_word n) new) homes contents n y
 
-  pub one_cell_shows : (n new : ℕ) (homes : List (maybe.Option (Slot P))) (contents : Contents P) (y : Cell) (t : Turns) (kept : List Kept) (w : PassView P)
+  pub one_cell_shows : (n new : ℕ) (homes : List (maybe.Option (Slot P O R))) (contents : Contents P) (y : Cell O R) (t : Turns O R) (kept : List (Kept R)) (w : PassView P O R)
       → t.cells ≡ set s.turns.cells n y → EachPlace (λ c x. length x.mine ≤ PASS_ENTRIES) t.callers → OneCell n new homes contents y
       → Shows (moved_to s t kept) (with_contents r.beside contents) (with_pass table (set table.words (lock_word n) new) homes id w)
   one_cell_shows n new homes contents y t kept w cells few_mine one = record {
@@ -240,7 +240,7 @@ module _ {S L P : Type 0} (F : Layouts S L P) (declared : List L)
         generations_apart table.words n new s.phases.turns r.beside.counts small (r.sound.cells.locks.many.few_procs) r.shows.generations;
     objects = objects_apart table.words n new s.phases.objects small few_objects few_processors r.shows.objects;
     cells =
-        subst (λ (xs : List Cell). EachPlace (IsCellShown (many_procs s) (set table.words (lock_word n) new) homes contents) xs) (sym cells)
+        subst (λ (xs : List (Cell O R)). EachPlace (IsCellShown (many_procs s) (set table.words (lock_word n) new) homes contents) xs) (sym cells)
         (EachPlace-set_else (IsCellShown (many_procs s) table.words table.homes r.beside.contents)
         (IsCellShown (many_procs s) (set table.words (lock_word n) new) homes contents) s.turns.cells n y r.shows.cells one.shown
         (λ m x not e is. other m x not (slice_get_within s.turns.cells m x e) is));
@@ -248,7 +248,7 @@ module _ {S L P : Type 0} (F : Layouts S L P) (declared : List L)
     small : n < 256
     small = let there = one.there in let few = few_cells in omega (arith, there, few)
 
-    other : (m : ℕ) (x : Cell) → m ≢ n → m < length s.turns.cells → IsCellShown (many_procs s) table.words table.homes r.beside.contents m x
+    other : (m : ℕ) (x : Cell O R) → m ≢ n → m < length s.turns.cells → IsCellShown (many_procs s) table.words table.homes r.beside.contents m x
         → IsCellShown (many_procs s) (set table.words (lock_word n) new) homes contents m x
     other m x not there is =
         let near : m < 256 = let few = few_cells in omega (arith, there, few) in
@@ -263,17 +263,17 @@ module _ {S L P : Type 0} (F : Layouts S L P) (declared : List L)
         }
 
   -- a cell other than the one that moved
-  pub set_cells : (n : ℕ) (y : Cell) (callers : List Caller) (m : ℕ) → m ≢ n
+  pub set_cells : (n : ℕ) (y : Cell O R) (callers : List (Caller O R)) (m : ℕ) → m ≢ n
       → cell_at (record { cells = set s.turns.cells n y; callers = callers }) m ≡ cell_at s.turns m
   set_cells n y callers m not = get_or-set_other s.turns.cells n m y (fresh_cell 0) not
 
   -- one cell moved, told as before, and with it what one pass knows
-  module _ (n new : ℕ) (homes : List (maybe.Option (Slot P))) (contents : Contents P) (y : Cell) (callers : List Caller)
-      (taker : Caller) (notes : List (Note P)) (out : Option ℕ) where
-    abbrev pub t : Turns
+  module _ (n new : ℕ) (homes : List (maybe.Option (Slot P O R))) (contents : Contents P) (y : Cell O R) (callers : List (Caller O R))
+      (taker : Caller O R) (notes : List (Note P O R)) (out : Option ℕ) where
+    abbrev pub t : Turns O R
     t = record { cells = set s.turns.cells n y; callers = callers }
 
-    abbrev pub w : PassView P
+    abbrev pub w : PassView P O R
     w = record v { taker = taker; notes = notes; out = out }
 
     -- the cell was nobody else's, and is nobody else's now
@@ -307,23 +307,23 @@ module _ {S L P : Type 0} (F : Layouts S L P) (declared : List L)
         callers = is.others;
         keeps = λ d not. refl;
         held = λ m d not lock. stays_else m (λ e. is.was d not (ap (λ k. (cell_at s.turns k).lock) (sym e) ∙ lock));
-        holds = λ m d not lock. stays_else m (λ e. is.now d not (ap (λ (x : Cell). x.lock) (sym here) ∙ ap (λ k. (cell_at t k).lock) (sym e) ∙ lock));
+        holds = λ m d not lock. stays_else m (λ e. is.now d not (ap (λ (x : Cell O R). x.lock) (sym here) ∙ ap (λ k. (cell_at t k).lock) (sym e) ∙ lock));
         drawn = is.drawn;
       }
 
       knows : KnowsCells s.turns r.beside.contents v
       knows = (known F declared table r id v at).cells
 
-      note_after : (note : Note P) → ((note.cell ≢ n) × IsNoted s.turns r.beside.contents v.number note) ⊎ IsNoted t contents v.number note
+      note_after : (note : Note P O R) → ((note.cell ≢ n) × IsNoted s.turns r.beside.contents v.number note) ⊎ IsNoted t contents v.number note
           → IsNoted t contents v.number note
       note_after note (inr new') = new'
       note_after note (inl old) =
           let stays = stays_else note.cell old.0 in
           record {
-            held = ap (λ (x : Cell). x.lock) stays.cell ∙ old.1.held;
-            away = ap (λ (x : Cell). x.home) stays.cell ∙ old.1.away;
-            history = ap (λ (x : Cell). x.history) stays.cell ∙ old.1.history;
-            closed = ap (λ (x : Cell). x.closed) stays.cell ∙ old.1.closed;
+            held = ap (λ (x : Cell O R). x.lock) stays.cell ∙ old.1.held;
+            away = ap (λ (x : Cell O R). x.home) stays.cell ∙ old.1.away;
+            history = ap (λ (x : Cell O R). x.history) stays.cell ∙ old.1.history;
+            closed = ap (λ (x : Cell O R). x.closed) stays.cell ∙ old.1.closed;
             part = stays.part ∙ old.1.part;
           }
 
@@ -332,19 +332,19 @@ module _ {S L P : Type 0} (F : Layouts S L P) (declared : List L)
           (λ e.
           let there : cell_at t m ≡ y = ap (cell_at t) e ∙ here in
           ap (names (cells_noted notes)) e
-          ∙ is.noted (ap (λ (x : Cell). x.lock) (sym there) ∙ lock) (ap (λ (x : Cell). x.home) (sym there) ∙ home))
+          ∙ is.noted (ap (λ (x : Cell O R). x.lock) (sym there) ∙ lock) (ap (λ (x : Cell O R). x.home) (sym there) ∙ home))
           (λ not.
           let same = sym (set_cells n y callers m not) in
-          is.still m not (knows.noted m (ap (λ (x : Cell). x.lock) same ∙ lock) (ap (λ (x : Cell). x.home) same ∙ home)))
+          is.still m not (knows.noted m (ap (λ (x : Cell O R). x.lock) same ∙ lock) (ap (λ (x : Cell O R). x.home) same ∙ home)))
 
       only_after : (m : ℕ) → (cell_at t m).lock ≡ Some v.number → contents.out m ≡ true → out ≡ Some m
       only_after m lock away = dite (ℕ_discrete m n)
           (λ e.
           let there : cell_at t m ≡ y = ap (cell_at t) e ∙ here in
-          is.only (ap (λ (x : Cell). x.lock) (sym there) ∙ lock) (ap contents.out (sym e) ∙ away) ∙ ap Some (sym e))
+          is.only (ap (λ (x : Cell O R). x.lock) (sym there) ∙ lock) (ap contents.out (sym e) ∙ away) ∙ ap Some (sym e))
           (λ not.
           let same = sym (set_cells n y callers m not) in
-          absurd (not (is.old_out m (knows.only m (ap (λ (x : Cell). x.lock) same ∙ lock) (sym (is.one.outs m not) ∙ away)))))
+          absurd (not (is.old_out m (knows.only m (ap (λ (x : Cell O R). x.lock) same ∙ lock) (sym (is.one.outs m not) ∙ away)))))
 
       cells_after : KnowsCells t contents w
       cells_after = record {
@@ -371,19 +371,19 @@ module _ {S L P : Type 0} (F : Layouts S L P) (declared : List L)
               over = k.trace.over;
               handed = k.trace.handed;
               unhanded = k.trace.unhanded;
-              times = subst (λ (entries : List Entry). EachPlace (λ place entry. IsOfTime s.phases.turns v.turn.proc entry) entries) (sym is.mine) k.trace.times;
+              times = subst (λ (entries : List (Entry O R)). EachPlace (λ place entry. IsOfTime s.phases.turns v.turn.proc entry) entries) (sym is.mine) k.trace.times;
             };
           }
 
       few_after : EachPlace (λ c x. length x.mine ≤ PASS_ENTRIES) callers
       few_after d x e =
           let here = get_or_from_slice_get callers d x fresh_caller e in
-          subst (λ (z : Caller). length z.mine ≤ PASS_ENTRIES) here
+          subst (λ (z : Caller O R). length z.mine ≤ PASS_ENTRIES) here
           (dite (ℕ_discrete d v.number)
           (λ same.
-          let own : (get_or callers d fresh_caller).mine ≡ (caller_at s.turns v.number).mine = ap (λ k. (get_or callers k fresh_caller).mine) same ∙ ap (λ (z : Caller). z.mine) is.own ∙ is.mine ∙ sym (ap (λ (z : Caller). z.mine) knows.taker) in
-          subst (λ (mine : List Entry). length mine ≤ PASS_ENTRIES) (sym own) (few_drawn s.turns.callers r.shows.few_entries v.number))
-          (λ not. subst (λ (z : Caller). length z.mine ≤ PASS_ENTRIES) (sym (is.others d not)) (few_drawn s.turns.callers r.shows.few_entries d)))
+          let own : (get_or callers d fresh_caller).mine ≡ (caller_at s.turns v.number).mine = ap (λ k. (get_or callers k fresh_caller).mine) same ∙ ap (λ (z : Caller O R). z.mine) is.own ∙ is.mine ∙ sym (ap (λ (z : Caller O R). z.mine) knows.taker) in
+          subst (λ (mine : List (Entry O R)). length mine ≤ PASS_ENTRIES) (sym own) (few_drawn s.turns.callers r.shows.few_entries v.number))
+          (λ not. subst (λ (z : Caller O R). length z.mine ≤ PASS_ENTRIES) (sym (is.others d not)) (few_drawn s.turns.callers r.shows.few_entries d)))
 
       told : (m : ℕ) → IsSameTold (cell_at s.turns m) (cell_at t m)
       told m = get_or-set_related IsSameTold same_told' s.turns.cells n m y (fresh_cell 0) is.told
@@ -394,7 +394,7 @@ module _ {S L P : Type 0} (F : Layouts S L P) (declared : List L)
           (dite (ℕ_discrete m n) (λ e. subst (λ k. IsPart F declared s k (contents.part k)) (sym e) is.part)
           (λ not. subst (IsPart F declared s m) (sym (is.one.parts m not)) (r.parts m (omega (arith, lt, length-set s.turns.cells n y)))))
 
-      pub cell_moved : (goal : Joined L) → moved_to s t s.kept ≡ goal → IsSound F declared goal
+      pub cell_moved : (goal : Joined L O R) → moved_to s t s.kept ≡ goal → IsSound F declared goal
           → (after : Rule F declared (with_pass table (set table.words (lock_word n) new) homes id w)) × (after.state ≡ goal)
       cell_moved goal same sound =
           let after =

@@ -43,16 +43,16 @@ held_word (Some c) e = (c, refl)
 pub some_one : (c d : ℕ) → Some c ≡ Some d → c ≡ d
 some_one c d e = cc
 
-module _ {S L P : Type 0} (F : Layouts S L P) (laws : AreLaws F) (declared : List L)
-    (table : State (Slot P) (View P)) (r : Rule F declared table) (id : ℕ) (v : PassView P)
+module _ {S L P O R : Type 0} (F : Layouts S L P O R) (laws : AreLaws F) (declared : List L)
+    (table : State (Slot P O R) (View P O R)) (r : Rule F declared table) (id : ℕ) (v : PassView P O R)
     (at : get_elem? table.views id ≡ some (Crew (v ∷ []))) (n : ℕ) where
-  abbrev s : Joined L
+  abbrev s : Joined L O R
   s = r.state
 
   abbrev c : ℕ
   c = v.number
 
-  abbrev x : Cell
+  abbrev x : Cell O R
   x = cell_at s.turns n
 
   abbrev i : ℕ
@@ -89,35 +89,35 @@ module _ {S L P : Type 0} (F : Layouts S L P) (laws : AreLaws F) (declared : Lis
     in_slots = let few = few_cells F declared table r id v at in let wide = r.shows.many_slots in let lt = there in omega (arith, few, wide, lt)
 
     -- the slot of a cell at home has its content, and is not out
-    pub record HasContent (slot : maybe.Option (Slot P)) : Type 0 where
+    pub record HasContent (slot : maybe.Option (Slot P O R)) : Type 0 where
       pub inside : contents.out n ≡ false
-      pub content : code.Content P
+      pub content : code.Content P O R
       pub full : slot ≡ some (Some content)
       pub is : IsCell n x.history x.closed (contents.part n) content
 
-    at_home : (slot : maybe.Option (Slot P)) → (out home : Bool) → home ≡ true → contents.out n ≡ out
+    at_home : (slot : maybe.Option (Slot P O R)) → (out home : Bool) → home ≡ true → contents.out n ≡ out
         → IsSlot n x (contents.part n) slot out home → HasContent slot
     at_home slot out true e is has = record { inside = is ∙ has.0; content = has.1.0; full = has.1.1; is = has.1.2 }
     at_home slot out false e is has = absurd (cc)
 
-    pub has_content : x.home ≡ true → (slot : maybe.Option (Slot P)) × (get_elem? table.homes (slot_of n) ≡ some slot) × HasContent slot
+    pub has_content : x.home ≡ true → (slot : maybe.Option (Slot P O R)) × (get_elem? table.homes (slot_of n) ≡ some slot) × HasContent slot
     has_content home =
         let slot = shown.slot touched.place in
         (slot.0, slot.1, at_home slot.0 (contents.out n) x.home home refl slot.2)
 
-    not_noted : x.home ≡ true → (note : Note P) → IsNoted s.turns contents c note → note.cell ≢ n
+    not_noted : x.home ≡ true → (note : Note P O R) → IsNoted s.turns contents c note → note.cell ≢ n
     not_noted home note is e =
         let away : x.home ≡ false = ap (λ k. (cell_at s.turns k).home) (sym e) ∙ is.away in
         absurd (cc)
 
     -- the lock of a cell at home is taken or left
-    module _ (lock : Option ℕ) (new : ℕ) (callers : List Caller) (taker : Caller) where
-      abbrev relocked : Cell
+    module _ (lock : Option ℕ) (new : ℕ) (callers : List (Caller O R)) (taker : Caller O R) where
+      abbrev relocked : Cell O R
       relocked = record x { lock = lock }
 
       pub relock : x.home ≡ true → v.out ≡ None → ((d : ℕ) → d ≢ c → x.lock ≢ Some d) → ((d : ℕ) → d ≢ c → lock ≢ Some d) → new ≡ holder_value lock
           → ((d : ℕ) → d ≢ c → get_or callers d fresh_caller ≡ caller_at s.turns d) → get_or callers c fresh_caller ≡ taker → taker.mine ≡ v.taker.mine
-          → ((stamp : ℕ) → is_known s.turns stamp ≡ true → list_any (λ (z : Caller). nat_le stamp z.clock) callers ≡ true)
+          → ((stamp : ℕ) → is_known s.turns stamp ≡ true → list_any (λ (z : Caller O R). nat_le stamp z.clock) callers ≡ true)
           → IsMove F declared table r id v at n new table.homes contents relocked callers taker v.notes v.out
       relock home idle was now word others own mine drawn = record {
         one = record {
@@ -154,21 +154,21 @@ module _ {S L P : Type 0} (F : Layouts S L P) (laws : AreLaws F) (declared : Lis
       }
 
     -- the cell as it is, while its slot is out or comes back
-    abbrev as_before : Turns
+    abbrev as_before : Turns O R
     as_before = record { cells = set s.turns.cells n x; callers = s.turns.callers }
 
     pub before : as_before ≡ s.turns
     before = λ k. record { cells = set-get_or s.turns.cells n (fresh_cell 0) k; callers = s.turns.callers }
 
-    note_before : (after : Contents P) → ((m : ℕ) → after.part m ≡ contents.part m) → (note : Note P) → IsNoted s.turns contents c note
+    note_before : (after : Contents P) → ((m : ℕ) → after.part m ≡ contents.part m) → (note : Note P O R) → IsNoted s.turns contents c note
         → IsNoted as_before after c note
     note_before after parts note is =
         let same : cell_at as_before note.cell ≡ cell_at s.turns note.cell = ap (λ t. cell_at t note.cell) before in
         record {
-          held = ap (λ (y : Cell). y.lock) same ∙ is.held;
-          away = ap (λ (y : Cell). y.home) same ∙ is.away;
-          history = ap (λ (y : Cell). y.history) same ∙ is.history;
-          closed = ap (λ (y : Cell). y.closed) same ∙ is.closed;
+          held = ap (λ (y : Cell O R). y.lock) same ∙ is.held;
+          away = ap (λ (y : Cell O R). y.home) same ∙ is.away;
+          history = ap (λ (y : Cell O R). y.history) same ∙ is.history;
+          closed = ap (λ (y : Cell O R). y.closed) same ∙ is.closed;
           part = parts note.cell ∙ is.part;
         }
 
@@ -183,28 +183,28 @@ module _ {S L P : Type 0} (F : Layouts S L P) (laws : AreLaws F) (declared : Lis
       others_not : (d : ℕ) → d ≢ c → x.lock ≢ Some d
       others_not d not e = not (some_one d c (sym e ∙ held))
 
-      same_content : {a b : code.Content P} → some (some (Some a)) ≡ some (some (Some b)) → a ≡ b
+      same_content : {a b : code.Content P O R} → some (some (Some a)) ≡ some (some (Some b)) → a ≡ b
       same_content e = cc
 
-      abbrev t_taken : Turns
+      abbrev t_taken : Turns O R
       t_taken = record { cells = set s.turns.cells n (cell_taken x); callers = s.turns.callers }
 
       here_taken : cell_at t_taken n ≡ cell_taken x
       here_taken = get_or-set_same s.turns.cells n (cell_taken x) (fresh_cell 0) there
 
-      note_taken : (content : code.Content P) → IsCell n x.history x.closed (contents.part n) content → IsNoted t_taken (with_out true) c (noted content)
+      note_taken : (content : code.Content P O R) → IsCell n x.history x.closed (contents.part n) content → IsNoted t_taken (with_out true) c (noted content)
       note_taken content is =
           let same : cell_at t_taken content.number ≡ cell_taken x = ap (cell_at t_taken) is.number ∙ here_taken in
           record {
-            held = ap (λ (y : Cell). y.lock) same ∙ held;
-            away = ap (λ (y : Cell). y.home) same;
-            history = ap (λ (y : Cell). y.history) same ∙ sym (ap (λ z. z.history) is.told);
-            closed = ap (λ (y : Cell). y.closed) same ∙ sym (ap (λ z. z.closed) is.told);
+            held = ap (λ (y : Cell O R). y.lock) same ∙ held;
+            away = ap (λ (y : Cell O R). y.home) same;
+            history = ap (λ (y : Cell O R). y.history) same ∙ sym (ap (λ z. z.history) is.told);
+            closed = ap (λ (y : Cell O R). y.closed) same ∙ sym (ap (λ z. z.closed) is.told);
             part = ap contents.part is.number ∙ sym is.part;
           }
 
       -- the cell leaves its place
-      pub take_move : v.out ≡ None → x.home ≡ true → (content : code.Content P) → get_elem? table.homes (slot_of n) ≡ some (some (Some content))
+      pub take_move : v.out ≡ None → x.home ≡ true → (content : code.Content P O R) → get_elem? table.homes (slot_of n) ≡ some (some (Some content))
           → IsMove F declared table r id v at n (get_or table.words i 0) (set table.homes (slot_of n) none) (with_out true) (cell_taken x) s.turns.callers v.taker
           (noted content ∷ v.notes) (Some content.number)
       take_move idle home content full =
@@ -241,12 +241,12 @@ module _ {S L P : Type 0} (F : Layouts S L P) (laws : AreLaws F) (declared : Lis
             noted = λ lock away. first_noted content.number n (cells_noted v.notes) is.number;
             still = λ m not e. further_noted content.number m (cells_noted v.notes) e;
             old_out = λ m e. absurd (cc);
-            new_out = λ m e. (sym (some_one content.number m e) ∙ is.number, record { held = ap (λ (y : Cell). y.lock) here_taken ∙ held; away = ap (λ (y : Cell). y.home) here_taken; out = written_here contents.out n true });
+            new_out = λ m e. (sym (some_one content.number m e) ∙ is.number, record { held = ap (λ (y : Cell O R). y.lock) here_taken ∙ held; away = ap (λ (y : Cell O R). y.home) here_taken; out = written_here contents.out n true });
             only = λ lock out. ap Some is.number;
           }
 
       -- the slot goes out, or comes back, while the cell is away
-      pub slot_move : (out' : Bool) (homes : List (maybe.Option (Slot P))) (slot : maybe.Option (Slot P)) (out : Option ℕ)
+      pub slot_move : (out' : Bool) (homes : List (maybe.Option (Slot P O R))) (slot : maybe.Option (Slot P O R)) (out : Option ℕ)
           → x.home ≡ false → homes ≡ set table.homes (slot_of n) slot → IsSlot n x (contents.part n) slot out' false
           → ((m : ℕ) → v.out ≡ Some m → m ≡ n) → ((m : ℕ) → out ≡ Some m → (m ≡ n) × (out' ≡ true)) → (out' ≡ true → out ≡ Some n)
           → IsMove F declared table r id v at n (get_or table.words i 0) homes (with_out out') x s.turns.callers v.taker v.notes out
@@ -280,12 +280,12 @@ module _ {S L P : Type 0} (F : Layouts S L P) (laws : AreLaws F) (declared : Lis
             noted = λ lock home. knows.noted n lock home;
             still = λ m not e. e;
             old_out = old;
-            new_out = λ m e. let both = new' m e in (both.0, record { held = ap (λ (y : Cell). y.lock) here ∙ held; away = ap (λ (y : Cell). y.home) here ∙ away; out = written_here contents.out n out' ∙ both.1 });
+            new_out = λ m e. let both = new' m e in (both.0, record { held = ap (λ (y : Cell O R). y.lock) here ∙ held; away = ap (λ (y : Cell O R). y.home) here ∙ away; out = written_here contents.out n out' ∙ both.1 });
             only = λ lock e. only (sym (written_here contents.out n out') ∙ e);
           }
 
       -- the cell comes back to its place
-      pub put_move : v.out ≡ Some n → x.home ≡ false → (content : code.Content P) → IsCell n x.history x.closed content.part content
+      pub put_move : v.out ≡ Some n → x.home ≡ false → (content : code.Content P O R) → IsCell n x.history x.closed content.part content
           → IsPart F declared s n content.part
           → IsMove F declared table r id v at n (get_or table.words i 0) (set table.homes (slot_of n) (some (Some content))) (with_own content.part) (cell_put x)
           s.turns.callers v.taker (without n v.notes) None

@@ -80,7 +80,7 @@ module _ (s : Phases) (sound : phases.IsSound s) (o : ℕ) (named : o < length s
   unsettled_by c there rows = ((visitor_known s sound c there).frees_alone.freeing o rows).3
 
 -- no Begin was answered where none was made
-nothing_begun : (answer : Answer) → answer_in 0 ≡ Some answer → ⊥
+nothing_begun : {R : Type 0} (answer : Answer R) → answer_in 0 ≡ Some answer → ⊥
 nothing_begun answer e = cc
 
 one_of : (a b : Bool) → a || b ≡ true → (a ≡ true) ⊎ (b ≡ true)
@@ -99,7 +99,7 @@ present_by : (k : Object) (i : ℕ) → is_over_in k i ≡ true → i ≡ k.inca
 present_by k i over = sym (eqb-true k.incarnation i (and_parts (is_over k) (eqb k.incarnation i) over).1)
 
 -- the answer tells that the object is over
-over_known : (k : Object) (i : ℕ) (answer : Answer) → tells_over answer ≡ true → IsTrueOf k i answer → is_over_in k k.incarnation ≡ true
+over_known : {R : Type 0} (k : Object) (i : ℕ) (answer : Answer R) → tells_over answer ≡ true → IsTrueOf k i answer → is_over_in k k.incarnation ≡ true
 over_known k i Spent tells is =
     both (is_over k) (eqb k.incarnation k.incarnation) (or_right (eqb k.layout 2) (eqb k.incarnation LAST_INCARNATION) (eq-eqb k.incarnation LAST_INCARNATION is.1))
     (eq-eqb k.incarnation k.incarnation refl)
@@ -108,10 +108,10 @@ over_known k i Gone tells is =
     (eq-eqb k.incarnation k.incarnation refl)
 over_known k i answer tells is = absurd (cc)
 
-module _ {S L P : Type 0} (F : Layouts S L P) (laws : AreLaws F) (declared : List L)
-    (table : State (Slot P) (View P)) (r : Rule F declared table) (id : ℕ) (v : PassView P)
+module _ {S L P O R : Type 0} (F : Layouts S L P O R) (laws : AreLaws F) (declared : List L)
+    (table : State (Slot P O R) (View P O R)) (r : Rule F declared table) (id : ℕ) (v : PassView P O R)
     (at : get_elem? table.views id ≡ some (Crew (v ∷ []))) (n : ℕ) where
-  abbrev s : Joined L
+  abbrev s : Joined L O R
   s = r.state
 
   abbrev c : ℕ
@@ -155,7 +155,7 @@ module _ {S L P : Type 0} (F : Layouts S L P) (laws : AreLaws F) (declared : Lis
 
   -- the object of its last Begin is there
   begun_there : (o : ℕ) → begun_of v.last ≡ Some o → o < many_objects s
-  begun_there o e = (r.sound.answers c knows.there).kept.there o (ap (λ (k : Kept). k.begun) knows.trace.kept ∙ e)
+  begun_there o e = (r.sound.answers c knows.there).kept.there o (ap (λ (k : Kept R). k.begun) knows.trace.kept ∙ e)
 
   pub swapped_there : (o : ℕ) → named_by v.visitor.swap ≡ Some o → o < many_objects s
   swapped_there o e =
@@ -256,8 +256,8 @@ module _ {S L P : Type 0} (F : Layouts S L P) (laws : AreLaws F) (declared : Lis
         let begun : begun_of v.last ≡ Some o = ap begun_of e ∙ ap (λ l. Some (object_begun l)) (sym e) in
         let named = begun_there o begun in
         let present : i ≡ incarnation s o = knows.trace.over is.answer is.found is.over in
-        let kept_begun : (kept_of s c).begun ≡ Some o = ap (λ (k : Kept). k.begun) knows.trace.kept ∙ begun in
-        let kept_found : (kept_of s c).found ≡ Some is.answer = ap (λ (k : Kept). k.found) knows.trace.kept ∙ is.found in
+        let kept_begun : (kept_of s c).begun ≡ Some o = ap (λ (k : Kept R). k.begun) knows.trace.kept ∙ begun in
+        let kept_found : (kept_of s c).found ≡ Some is.answer = ap (λ (k : Kept R). k.found) knows.trace.kept ∙ is.found in
         let true_of = ((r.sound.answers c knows.there).found o is.answer kept_begun kept_found).over in
         let over = over_known (object s o) (incarnation s o) is.answer is.over true_of in
         let life : (cell_in s o i is.place).life ≡ incarnation s o =
@@ -333,6 +333,6 @@ module _ {S L P : Type 0} (F : Layouts S L P) (laws : AreLaws F) (declared : Lis
         freed = is.freed;
       }) d there may
 
-pub touch_always : {S L P : Type 0} (F : Layouts S L P) → AreLaws F → (declared : List L) (id n : ℕ) (v : PassView P) → Touches F.procs n v
+pub touch_always : {S L P O R : Type 0} (F : Layouts S L P O R) → AreLaws F → (declared : List L) (id n : ℕ) (v : PassView P O R) → Touches F.procs n v
     → Always F declared id v (λ s. MayTouch s v.number n)
 touch_always F laws declared id n v is table r at = touch F laws declared table r id v at n is

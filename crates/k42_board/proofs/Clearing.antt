@@ -65,17 +65,17 @@ or_true false = refl
 
 -- what is asked of a pass, by its stage
 
-moved_may : {P : Type 0} (v : PassView P) (swap : SwapAt) → is_moved swap ≡ true → MayClearAt swap v → (v.handed ≡ None) × (holds_none v.taker.held ≡ true)
+moved_may : {P O R : Type 0} (v : PassView P O R) (swap : SwapAt) → is_moved swap ≡ true → MayClearAt swap v → (v.handed ≡ None) × (holds_none v.taker.held ≡ true)
 moved_may v (Moved o) e may = may
 moved_may v swap e may = absurd (cc)
 
-ended_may : {P : Type 0} (v : PassView P) (swap : SwapAt) → is_moved swap ≡ false → MayClearAt swap v → is_ended swap ≡ true
+ended_may : {P O R : Type 0} (v : PassView P O R) (swap : SwapAt) → is_moved swap ≡ false → MayClearAt swap v → is_ended swap ≡ true
 ended_may v (Refused o) e may = refl
 ended_may v (Opened o) e may = refl
 ended_may v (Moved o) e may = absurd (cc)
 ended_may v swap e may = absurd may
 
-clear_may : {P : Type 0} (v : PassView P) (k : Object) (swap : SwapAt) → is_ended swap ≡ true → MayClearAt swap v → v.turned ≡ is_turned swap k
+clear_may : {P O R : Type 0} (v : PassView P O R) (k : Object) (swap : SwapAt) → is_ended swap ≡ true → MayClearAt swap v → v.turned ≡ is_turned swap k
     → may_clear swap k v.abandoned ≡ true
 clear_may v k (Refused o) e may is = refl
 clear_may v k (Opened o) e may is =
@@ -93,8 +93,8 @@ ended_is (Refused o) e = record { named = refl; unmoved = refl; complete = λ k 
 ended_is (Opened o) e = record { named = refl; unmoved = refl; complete = λ k turned. turned }
 ended_is swap e = absurd (cc)
 
-module _ {S L P : Type 0} (F : Layouts S L P) (laws : AreLaws F) (declared : List L)
-    (table : State (Slot P) (View P)) (r : Rule F declared table) (id : ℕ) (v : PassView P)
+module _ {S L P O R : Type 0} (F : Layouts S L P O R) (laws : AreLaws F) (declared : List L)
+    (table : State (Slot P O R) (View P O R)) (r : Rule F declared table) (id : ℕ) (v : PassView P O R)
     (at : get_elem? table.views id ≡ some (Crew (v ∷ []))) where
   abbrev s : Phases
   s = r.state.phases
@@ -122,10 +122,10 @@ module _ {S L P : Type 0} (F : Layouts S L P) (laws : AreLaws F) (declared : Lis
     abbrev u : Object
     u = unblocked k
 
-    abbrev kept' : Kept
+    abbrev kept' : Kept R
     kept' = record (kept_of r.state c) { abandoned = false }
 
-    abbrev kept : List Kept
+    abbrev kept : List (Kept R)
     kept = set r.state.kept c kept'
 
     given_up : IsStaged r.state o u
@@ -139,23 +139,23 @@ module _ {S L P : Type 0} (F : Layouts S L P) (laws : AreLaws F) (declared : Lis
         core = ap is_moved (stage_is F laws declared table r id v at) ∙ moves;
         beside =
             rw (
-              ap (λ (z : turns.Caller). holds_none z.held) knows.cells.taker ∙ free,
+              ap (λ (z : turns.Caller O R). holds_none z.held) knows.cells.taker ∙ free,
               ap (λ z. is_handed r.state (object_named z)) (stage_is F laws declared table r id v at) ∙ knows.trace.unhanded unhanded moves,
             )
             refl;
       };
     }
 
-    abbrev reopening : Joined L
+    abbrev reopening : Joined L O R
     reopening = visited r.state (set s.objects o u) (set s.callers c (at_stage v.visitor (Reopening o 0))) kept
 
-    abbrev giving_up : PassView P
+    abbrev giving_up : PassView P O R
     giving_up = record (at_swap v (Reopening o 0)) { abandoned = false }
 
     kept_is : kept_of reopening c ≡ kept_in giving_up
     kept_is =
         get_or-set_same r.state.kept c kept' nothing_kept c_kept
-        ∙ (λ j. record { begun = (ap (λ (z : Kept). z.begun) knows.trace.kept) j; found = (ap (λ (z : Kept). z.found) knows.trace.kept) j; abandoned = false })
+        ∙ (λ j. record { begun = (ap (λ (z : Kept R). z.begun) knows.trace.kept) j; found = (ap (λ (z : Kept R). z.found) knows.trace.kept) j; abandoned = false })
 
     pass_giving_up : KnowsPass F.tag_of reopening r.beside id giving_up
     pass_giving_up =
@@ -218,18 +218,18 @@ module _ {S L P : Type 0} (F : Layouts S L P) (laws : AreLaws F) (declared : Lis
         objects = tt;
         core = ap is_ended (stage_is F laws declared table r id v at) ∙ ended;
         beside =
-            ap (λ (z : SwapAt × Kept). may_clear z.0 (object_at s (object_named z.0)) z.1.abandoned)
+            ap (λ (z : SwapAt × Kept R). may_clear z.0 (object_at s (object_named z.0)) z.1.abandoned)
             (λ j. ((stage_is F laws declared table r id v at) j, knows.trace.kept j))
             ∙ clear_may v k v.visitor.swap ended may knows.phases.swap.turned;
       };
     }
 
-    abbrev idle : Joined L
+    abbrev idle : Joined L O R
     idle = visited r.state (set s.objects o l) (set s.callers c (at_stage v.visitor Idle)) r.state.kept
 
     -- with these rows
     module _ (rows : List Row) (naming : Row → ℕ) where
-      abbrev ending : PassView P
+      abbrev ending : PassView P O R
       ending = record (at_swap v Idle) { turned = false; rows = rows }
 
       knows_none : KnowsSwap idle.phases ending
@@ -355,37 +355,37 @@ module _ {S L P : Type 0} (F : Layouts S L P) (laws : AreLaws F) (declared : Lis
       (with_pass table (set table.words (object_word o) (clears v.visitor.swap found)) table.homes id (cleared_view v))
   clears_step may few_granted = clears_at (is_moved v.visitor.swap) refl may few_granted
 
-clear_goes : {S L P : Type 0} (F : Layouts S L P) → AreLaws F → (declared : List L) (id : ℕ) (v : PassView P) → MayClear v → v.granted ≤ length v.rows
+clear_goes : {S L P O R : Type 0} (F : Layouts S L P O R) → AreLaws F → (declared : List L) (id : ℕ) (v : PassView P O R) → MayClear v → v.granted ≤ length v.rows
     → Moves F declared (AtPhases (clear_event v.number v.visitor.swap)) (object_word (object_swapped v)) (clears v.visitor.swap) (λ found. cleared_view) id v
 clear_goes F laws declared id v may few_granted = record { from = λ table r at. clears_step F laws declared table r id v at may few_granted }
 
-pub clear_moves : {S L P : Type 0} (F : Layouts S L P) → AreLaws F → (declared : List L) (id : ℕ) (v : PassView P) → MayClear v → v.granted ≤ length v.rows
+pub clear_moves : {S L P O R : Type 0} (F : Layouts S L P O R) → AreLaws F → (declared : List L) (id : ℕ) (v : PassView P O R) → MayClear v → v.granted ≤ length v.rows
     → Moves F declared (AtPhases (clear_event v.number v.visitor.swap)) (object_word (object_swapped v)) (clears v.visitor.swap) (λ found x. took steps.Clear (object_word (object_swapped x)) found (cleared_view x))
     id v
 clear_moves F laws declared id v may few_granted = record { from = (logged_moves steps.Clear (λ n. n) (λ found q before is. is) (clear_goes F laws declared id v may few_granted)).from }
 
 -- as the play tells it, of what is left under this mask at the word that the step names
-module _ {S L P : Type 0} (F : Layouts S L P) (laws : AreLaws F) (declared : List L) (id : ℕ)
-    (me : Seated P) (is : IsSeatOf me (pass_in me.0)) (may : MayClear (pass_in me.0)) (few_granted : (pass_in me.0).granted ≤ length (pass_in me.0).rows)
+module _ {S L P O R : Type 0} (F : Layouts S L P O R) (laws : AreLaws F) (declared : List L) (id : ℕ)
+    (me : Seated P O R) (is : IsSeatOf me (pass_in me.0)) (may : MayClear (pass_in me.0)) (few_granted : (pass_in me.0).granted ≤ length (pass_in me.0).rows)
     (word o : ℕ) (at : word ≡ object_word o) (same : object_swapped (pass_in me.0) ≡ o) (mask : ℕ) (keeps : mask ≡ kept_bits (pass_in me.0).visitor.swap) where
   clear_there : word ≡ object_word (object_swapped (pass_in me.0))
   clear_there = at ∙ ap object_word (sym same)
 
-  abbrev clear_row : ℕ → PassView P → PassView P
+  abbrev clear_row : ℕ → PassView P O R → PassView P O R
   clear_row found x = took steps.Clear (object_word (object_swapped x)) found (cleared_view x)
 
-  abbrev clear_play : ℕ → PassView P → PassView P
+  abbrev clear_play : ℕ → PassView P O R → PassView P O R
   clear_play found x = took steps.Clear word found (cleared_view x)
 
   clear_same : (found : ℕ) → clear_row found (pass_in me.0) ≡ clear_play found (pass_in me.0)
   clear_same found = ap (λ i. took steps.Clear i found (cleared_view (pass_in me.0))) (sym clear_there)
 
-  pub clear_allowed : {callers : ℕ} (slots : ℕ) (step : Step (Slot P))
+  pub clear_allowed : {callers : ℕ} (slots : ℕ) (step : Step (Slot P O R))
       → Allows (Ruled F declared callers) slots id me word (λ n. bit_and n mask) (TellsWith clear_play ClearFound step me)
   clear_allowed {callers} slots step =
       subst (λ (z : ℕ). Allows (Ruled F declared callers) slots id me word (λ n. bit_and n z) (TellsWith clear_play ClearFound step me)) (sym keeps)
       (retold_allowed_with clear_row clear_play clear_same (clear_moves F laws declared id (pass_in me.0) may few_granted) ClearFound
       (clear_finds F declared id (pass_in me.0)) me is word clear_there slots step)
 
-  pub clear_told : (step : Step (Slot P)) (found : ℕ) (after : Seated P) → TellsWith clear_play ClearFound step me found after → Tells clear_row step me found after
+  pub clear_told : (step : Step (Slot P O R)) (found : ℕ) (after : Seated P O R) → TellsWith clear_play ClearFound step me found after → Tells clear_row step me found after
   clear_told step found after told = retold clear_row clear_play clear_same me after is step found told.0

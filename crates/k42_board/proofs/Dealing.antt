@@ -23,7 +23,7 @@ at_end [] a b (suc j) e = absurd (some-ne-none b (sym e))
 at_end (x ∷ xs) a b zero e = inr e
 at_end (x ∷ xs) a b (suc j) e = ⊎_elim (λ t. inl (ap suc t.0, t.1)) (λ t. inr t) (at_end xs a b j e)
 
-pub seated_at : {L P : Type 0} (tag_of : L → ℕ) (s : Joined L) (beside : Beside P) (seat : ℕ → ℕ) (id j : ℕ) (x : PassView P) → seat x.number ≡ j
+pub seated_at : {L P O R : Type 0} (tag_of : L → ℕ) (s : Joined L O R) (beside : Beside P) (seat : ℕ → ℕ) (id j : ℕ) (x : PassView P O R) → seat x.number ≡ j
     → NamesRows beside j x.rows → KnowsPass tag_of s beside id x → KnowsPass tag_of s (record beside { seat = seat }) j x
 seated_at tag_of s beside seat id j x is names knows = record {
   there = knows.there;
@@ -39,7 +39,7 @@ pub names_none : {P : Type 0} (beside : Beside P) (id : ℕ) (rows : List Row) �
 names_none beside id [] is = record { named = λ place row e. absurd (cc); once = λ i j row e. absurd (cc) }
 names_none beside id (row ∷ rows) is = absurd (cc)
 
-module _ {S L P : Type 0} (F : Layouts S L P) (declared : List L) (callers : ℕ) (id : ℕ) (v : PassView P) (rest : List (PassView P)) (none : v.rows ≡ []) where
+module _ {S L P O R : Type 0} (F : Layouts S L P O R) (declared : List L) (callers : ℕ) (id : ℕ) (v : PassView P O R) (rest : List (PassView P O R)) (none : v.rows ≡ []) where
   parted : Splits (Rule F declared) id (Crew (v ∷ rest)) (Crew rest) (Crew (v ∷ []))
   parted table r at = record {
     state = r.state;
@@ -57,10 +57,10 @@ module _ {S L P : Type 0} (F : Layouts S L P) (declared : List L) (callers : ℕ
     parts = r.parts;
     seats = λ j view e.
         ⊎_elim
-        (λ new. subst (λ (z : ℕ × View P). Knows F.tag_of r.state beside' z.0 z.1) (λ i. (sym (new.0 ∙ length-set table.views id (Crew rest)) i, new.1 i)) own)
+        (λ new. subst (λ (z : ℕ × View P O R). Knows F.tag_of r.state beside' z.0 z.1) (λ i. (sym (new.0 ∙ length-set table.views id (Crew rest)) i, new.1 i)) own)
         (λ old.
         ⊎_elim
-        (λ here. subst (λ (z : ℕ × View P). Knows F.tag_of r.state beside' z.0 z.1) (λ i. (sym here.0 i, here.1 i)) left)
+        (λ here. subst (λ (z : ℕ × View P O R). Knows F.tag_of r.state beside' z.0 z.1) (λ i. (sym here.0 i, here.1 i)) left)
         (λ else. other j view else.0 (r.seats j view else.1))
         (at_set table.views id j (Crew rest) view old))
         (at_end (set table.views id (Crew rest)) (Crew (v ∷ [])) view j e);
@@ -77,7 +77,7 @@ module _ {S L P : Type 0} (F : Layouts S L P) (declared : List L) (callers : ℕ
     beside' : Beside P
     beside' = record r.beside { seat = put r.beside.seat v.number (length table.views) }
 
-    own_each : (place : ℕ) (x : PassView P) → slice_get (v ∷ []) place ≡ Some x → KnowsPass F.tag_of r.state beside' (length table.views) x
+    own_each : (place : ℕ) (x : PassView P O R) → slice_get (v ∷ []) place ≡ Some x → KnowsPass F.tag_of r.state beside' (length table.views) x
     own_each zero x e =
         subst (KnowsPass F.tag_of r.state beside' (length table.views)) (same_Some v x e)
         (seated_at F.tag_of r.state r.beside (put r.beside.seat v.number (length table.views)) id (length table.views) v (put_here r.beside.seat v.number (length table.views) v.number refl) (names_none r.beside (length table.views) v.rows none) mine)
@@ -95,7 +95,7 @@ module _ {S L P : Type 0} (F : Layouts S L P) (declared : List L) (callers : ℕ
           (put_else r.beside.seat v.number (length table.views) x.number (λ same. let one = knows.0 (suc place) 0 x v e refl same in absurd (omega (arith, one))) ∙ k.seat) k.names k,
     )
 
-    other : (j : ℕ) (view : View P) → j ≢ id → Knows F.tag_of r.state r.beside j view → Knows F.tag_of r.state beside' j view
+    other : (j : ℕ) (view : View P O R) → j ≢ id → Knows F.tag_of r.state r.beside j view → Knows F.tag_of r.state beside' j view
     other j (Crew passes) not known = (
       known.0,
       λ place x e.

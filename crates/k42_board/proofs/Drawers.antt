@@ -40,7 +40,7 @@ use Rattle.k42_board.proofs.Moves.{Moves, Finds, seat_allowed_with, seat_is}
 use Rattle.k42_board.proofs.OnePass.{known}
 
 -- the pass after a draw: it has forgotten what its last Begin found
-abbrev pub drawer : {P : Type 0} → PassView P → Caller → List (Note P) → Bool → Option ℕ → List ℕ → PassView P
+abbrev pub drawer : {P O R : Type 0} → PassView P O R → Caller O R → List (Note P O R) → Bool → Option ℕ → List ℕ → PassView P O R
 drawer v taker notes abandoned handed untold = record v {
   taker = taker;
   notes = notes;
@@ -50,13 +50,13 @@ drawer v taker notes abandoned handed untold = record v {
   untold = untold;
 }
 
-module _ {L P : Type 0} (tag_of : L → ℕ) (s : Joined L) (turns : Turns) (hands : List (List L)) (kept : List Kept) (beside : Beside P)
-    (contents : Contents P) (id : ℕ) (v : PassView P) (k : KnowsPass tag_of s beside id v) (entry : Entry) (notes : List (Note P))
+module _ {L P O R : Type 0} (tag_of : L → ℕ) (s : Joined L O R) (turns : Turns O R) (hands : List (List L)) (kept : List (Kept R)) (beside : Beside P)
+    (contents : Contents P) (id : ℕ) (v : PassView P O R) (k : KnowsPass tag_of s beside id v) (entry : Entry O R) (notes : List (Note P O R))
     (abandoned : Bool) (handed : Option ℕ) (untold : List ℕ) where
-  abbrev pub after : Joined L
+  abbrev pub after : Joined L O R
   after = record s { turns = turns; hands = hands; kept = kept }
 
-  abbrev pub w : PassView P
+  abbrev pub w : PassView P O R
   w = drawer v (caller_drawn entry v.taker) notes abandoned handed untold
 
   pub record Draws : Type 0 where
@@ -107,7 +107,7 @@ module _ {L P : Type 0} (tag_of : L → ℕ) (s : Joined L) (turns : Turns) (han
   }
 
 -- which cells do not tell of an entry yet is nothing that a pass knows
-pub untold_known : {L P : Type 0} (tag_of : L → ℕ) (s : Joined L) (beside : Beside P) (id : ℕ) (v : PassView P) → KnowsPass tag_of s beside id v → (cells : List ℕ)
+pub untold_known : {L P O R : Type 0} (tag_of : L → ℕ) (s : Joined L O R) (beside : Beside P) (id : ℕ) (v : PassView P O R) → KnowsPass tag_of s beside id v → (cells : List ℕ)
     → KnowsPass tag_of s beside id (untold_view cells v)
 untold_known tag_of s beside id v k cells = record {
   there = k.there;
@@ -143,7 +143,7 @@ untold_known tag_of s beside id v k cells = record {
 }
 
 -- the entry is the caller's next
-pub is_next_of : (s : Turns) (c : ℕ) (cells : List ℕ) (entry : Entry) → entry.caller ≡ c → entry.index ≡ length (caller_at s c).mine → entry.stamp ≡ next_stamp s c cells
+pub is_next_of : {O R : Type 0} (s : Turns O R) (c : ℕ) (cells : List ℕ) (entry : Entry O R) → entry.caller ≡ c → entry.index ≡ length (caller_at s c).mine → entry.stamp ≡ next_stamp s c cells
     → is_next s c cells entry ≡ true
 is_next_of s c cells entry caller index stamp =
     let one = eq-eqb entry.caller c caller in
@@ -152,22 +152,22 @@ is_next_of s c cells entry caller index stamp =
     rw (one, two, three) refl
 
 -- nobody draws an entry with a large stamp
-pub small_stamps : {S L P : Type 0} (F : Layouts S L P) (declared : List L) (table : State (Slot P) (View P)) (r : Rule F declared table) (id : ℕ) (v : PassView P)
+pub small_stamps : {S L P O R : Type 0} (F : Layouts S L P O R) (declared : List L) (table : State (Slot P O R) (View P O R)) (r : Rule F declared table) (id : ℕ) (v : PassView P O R)
     → get_elem? table.views id ≡ some (Crew (v ∷ [])) → HasSmallStamp v
-small_stamps F declared table r id v at =
+small_stamps {O} {R} F declared table r id v at =
     let s = r.state.turns in
     let k = known F declared table r id v at in
     let there : v.number < length s.callers = let many = r.sound.cells.locks.many.callers in let lt = k.there in omega (arith, many, lt) in
     let own = r.sound.cells.turns.callers v.number (caller_at s v.number) (slice_get-get_or s.callers v.number fresh_caller there) in
     let bounded = own.clock in
-    let most = sum_by-le (λ (x : Caller). length x.mine) (2 ^ 58) s.callers (λ i d lt. r.shows.few_entries i (get_or s.callers i d) (slice_get-get_or s.callers i d lt)) in
+    let most = sum_by-le (λ (x : Caller O R). length x.mine) (2 ^ 58) s.callers (λ i d lt. r.shows.few_entries i (get_or s.callers i d) (slice_get-get_or s.callers i d lt)) in
     let few = r.sound.phases.in_scene.in_course.limits.few_callers in
     let long = r.sound.phases.in_scene.in_course.many_callers in
     let many = r.sound.cells.locks.many.callers in
-    subst (λ (x : Caller). x.clock ≤ LAST_STAMP) k.cells.taker (omega (arith, bounded, most, few, long, many))
+    subst (λ (x : Caller O R). x.clock ≤ LAST_STAMP) k.cells.taker (omega (arith, bounded, most, few, long, many))
 
 -- a step that makes this of its pass, whatever it finds
-module _ {S L P : Type 0} {F : Layouts S L P} {declared : List L} {event : Event L} {word : ℕ} {becomes : PassView P → PassView P} {id : ℕ} {v : PassView P}
+module _ {S L P O R : Type 0} {F : Layouts S L P O R} {declared : List L} {event : Event L O R} {word : ℕ} {becomes : PassView P O R → PassView P O R} {id : ℕ} {v : PassView P O R}
     (moves : Moves F declared event word (λ n. n) (λ found. becomes) id v) where
   finds_small : Finds F declared word (λ v found. HasSmallStamp (becomes v)) id v
   finds_small table r at =
@@ -178,21 +178,21 @@ module _ {S L P : Type 0} {F : Layouts S L P} {declared : List L} {event : Event
   draw_moves = logged_moves steps.Draw (λ n. 0) (λ found o before is. is) moves
 
   -- at a word that is this one
-  pub draw_allowed : {callers : ℕ} (said : PassView P → PassView P) → said ≡ becomes → (place : ℕ) → place ≡ word → (me : Seated P) → IsSeatOf me v → (slots : ℕ) (step : Step (Slot P))
+  pub draw_allowed : {callers : ℕ} (said : PassView P O R → PassView P O R) → said ≡ becomes → (place : ℕ) → place ≡ word → (me : Seated P O R) → IsSeatOf me v → (slots : ℕ) (step : Step (Slot P O R))
       → Allows (Ruled F declared callers) slots id me place (λ n. n) (TellsWith (λ found x. took steps.Draw place 0 (said x)) (λ v found. HasSmallStamp (said v)) step me)
   draw_allowed {callers} said same place there me is slots step =
-      subst (λ (z : ℕ × (PassView P → PassView P)). Allows (Ruled F declared callers) slots id me z.0 (λ n. n) (TellsWith (λ found x. took steps.Draw z.0 0 (z.1 x)) (λ v found. HasSmallStamp (z.1 v)) step me))
+      subst (λ (z : ℕ × (PassView P O R → PassView P O R)). Allows (Ruled F declared callers) slots id me z.0 (λ n. n) (TellsWith (λ found x. took steps.Draw z.0 0 (z.1 x)) (λ v found. HasSmallStamp (z.1 v)) step me))
       (λ k. (sym there k, sym same k)) (seat_allowed_with draw_moves (λ v found. HasSmallStamp (becomes v)) finds_small me is slots step)
 
-  pub draw_is : (me seated : Seated P) → IsSeatOf me v → (step : Step (Slot P)) (found : ℕ) → Tells (λ found x. took steps.Draw word 0 (becomes x)) step me found seated
+  pub draw_is : (me seated : Seated P O R) → IsSeatOf me v → (step : Step (Slot P O R)) (found : ℕ) → Tells (λ found x. took steps.Draw word 0 (becomes x)) step me found seated
       → StepIs F declared event word (λ n. n) id v found (pass_in seated.0)
   draw_is me seated is step found told = seat_is draw_moves me seated is step found told
 
 -- what the step has told
-pub draw_told : {P : Type 0} {word : ℕ} {becomes : PassView P → PassView P} (said : PassView P → PassView P) → said ≡ becomes → (place : ℕ) → place ≡ word
-    → (me seated : Seated P) (step : Step (Slot P)) (found : ℕ)
+pub draw_told : {P O R : Type 0} {word : ℕ} {becomes : PassView P O R → PassView P O R} (said : PassView P O R → PassView P O R) → said ≡ becomes → (place : ℕ) → place ≡ word
+    → (me seated : Seated P O R) (step : Step (Slot P O R)) (found : ℕ)
     → TellsWith (λ found x. took steps.Draw place 0 (said x)) (λ v found. HasSmallStamp (said v)) step me found seated
     → TellsWith (λ found x. took steps.Draw word 0 (becomes x)) (λ v found. HasSmallStamp (becomes v)) step me found seated
-draw_told said same place there me seated step found told =
-    subst (λ (z : ℕ × (PassView _ → PassView _)). TellsWith (λ found x. took steps.Draw z.0 0 (z.1 x)) (λ v found. HasSmallStamp (z.1 v)) step me found seated)
+draw_told {O} {R} said same place there me seated step found told =
+    subst (λ (z : ℕ × (PassView _ O R → PassView _ O R)). TellsWith (λ found x. took steps.Draw z.0 0 (z.1 x)) (λ v found. HasSmallStamp (z.1 v)) step me found seated)
     (λ k. (there k, same k)) told

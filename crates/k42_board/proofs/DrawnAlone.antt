@@ -53,7 +53,7 @@ begun_some : (last : Option LastBegin) (o : ℕ) → begun_of last ≡ Some o �
 begun_some None o e = absurd (cc)
 begun_some (Some begin) o e = cc
 
-pub begun_found : (last : Option LastBegin) (answer : Answer) → answer_in (word_begun last) ≡ Some answer → begun_of last ≡ Some (object_begun last)
+pub begun_found : {R : Type 0} (last : Option LastBegin) (answer : Answer R) → answer_in (word_begun last) ≡ Some answer → begun_of last ≡ Some (object_begun last)
 begun_found None answer e = absurd (cc)
 begun_found (Some begin) answer e = refl
 
@@ -80,16 +80,16 @@ gives_one (Blocking o) turned k is e = absurd (cc)
 gives_one (Moved o) turned k is e = absurd (cc)
 gives_one (Opening o p) turned k is e = absurd (cc)
 
-module _ {S L P : Type 0} (F : Layouts S L P) (laws : AreLaws F) (declared : List L)
-    (table : State (Slot P) (View P)) (r : Rule F declared table) (id : ℕ) (v : PassView P)
-    (at : get_elem? table.views id ≡ some (Crew (v ∷ []))) (act : Act) (answer : Answer) (may : MayDrawAlone act answer v) where
-  abbrev s : Joined L
+module _ {S L P O R : Type 0} (F : Layouts S L P O R) (laws : AreLaws F) (declared : List L)
+    (table : State (Slot P O R) (View P O R)) (r : Rule F declared table) (id : ℕ) (v : PassView P O R)
+    (at : get_elem? table.views id ≡ some (Crew (v ∷ []))) (act : Act O) (answer : Answer R) (may : MayDrawAlone act answer v) where
+  abbrev s : Joined L O R
   s = r.state
 
   abbrev c : ℕ
   c = v.number
 
-  abbrev entry : Entry
+  abbrev entry : Entry O R
   entry = entry_alone v act answer
 
   k : KnowsPass F.tag_of s r.beside id v
@@ -102,15 +102,15 @@ module _ {S L P : Type 0} (F : Layouts S L P) (laws : AreLaws F) (declared : Lis
   no_generation = ap (λ b. cond b v.turn.active None) may.act_is
 
   -- what its last Begin found, or the swap that it gives up
-  record IsBeside (told : Answer) : Type 0 where
+  record IsBeside (told : Answer R) : Type 0 where
     begun : begun_of v.last ≡ Some (object_begun v.last)
     answered : IsAnsweredAlone s c (entry_alone v act told) told
 
   beside_busy : (number : ℕ) → v.found ≡ Some (Busy number) → IsBeside (Busy number)
   beside_busy number found =
       let begun = begun_found v.last (Busy number) (k.trace.found (Busy number) found) in
-      let kept_begun : (kept_of s c).begun ≡ Some (object_begun v.last) = ap (λ (z : Kept). z.begun) k.trace.kept ∙ begun in
-      let kept_found : (kept_of s c).found ≡ Some (Busy number) = ap (λ (z : Kept). z.found) k.trace.kept ∙ found in
+      let kept_begun : (kept_of s c).begun ≡ Some (object_begun v.last) = ap (λ (z : Kept R). z.begun) k.trace.kept ∙ begun in
+      let kept_found : (kept_of s c).found ≡ Some (Busy number) = ap (λ (z : Kept R). z.found) k.trace.kept ∙ found in
       let some_number = ((r.sound.answers c k.there).found (object_begun v.last) (Busy number) kept_begun kept_found).some number refl in
       record { begun = begun; answered = record { found = kept_found; before = omega (arith, some_number) } }
 
@@ -120,7 +120,7 @@ module _ {S L P : Type 0} (F : Layouts S L P) (laws : AreLaws F) (declared : Lis
       let swap = v.visitor.swap in
       let o = object_named swap in
       let one = gives_one swap v.turned (object s o) k.phases.swap.turned gives in
-      let kept_begun : begun_of v.last ≡ Some o = sym (ap (λ (z : Kept). z.begun) k.trace.kept) ∙ (r.sound.answers c k.there).kept.begun o (ap named_by swap_is ∙ one.named) in
+      let kept_begun : begun_of v.last ≡ Some o = sym (ap (λ (z : Kept R). z.begun) k.trace.kept) ∙ (r.sound.answers c k.there).kept.begun o (ap named_by swap_is ∙ one.named) in
       let same : object_begun v.last ≡ o = begun_some v.last o kept_begun in
       let there : incarnation_in (word_begun v.last) ≡ incarnation s o = k.phases.swap.begun o one.named one.kept in
       record {
@@ -130,11 +130,11 @@ module _ {S L P : Type 0} (F : Layouts S L P) (laws : AreLaws F) (declared : Lis
           present = omega (arith, is) ∙ there ∙ ap (incarnation s) (sym same);
           given_up = ap (λ z. is_given_up z (object s (object_begun v.last)) (object_begun v.last)) swap_is
               ∙ ap (λ q. is_given_up swap (object s q) q) same ∙ one.given;
-          once = ap (λ (z : Kept). z.abandoned) k.trace.kept ∙ fresh;
+          once = ap (λ (z : Kept R). z.abandoned) k.trace.kept ∙ fresh;
         };
       }
 
-  beside : (told : Answer) → IsAnswerAlone v told → IsBeside told
+  beside : (told : Answer R) → IsAnswerAlone v told → IsBeside told
   beside (Busy number) is = beside_busy number is
   beside (Abandoned number) is = beside_given_up number is.0 is.1 is.2
   beside (Replied reply) is = absurd is
@@ -143,7 +143,7 @@ module _ {S L P : Type 0} (F : Layouts S L P) (laws : AreLaws F) (declared : Lis
   beside Gone is = absurd is
 
   mine_is : (caller_at s.turns c).mine ≡ v.taker.mine
-  mine_is = ap (λ (x : Caller). x.mine) k.cells.taker
+  mine_is = ap (λ (x : Caller O R). x.mine) k.cells.taker
 
   possible : IsPossible F declared s (AtCells (Alone c entry))
   possible =
@@ -151,10 +151,10 @@ module _ {S L P : Type 0} (F : Layouts S L P) (laws : AreLaws F) (declared : Lis
       record {
         caller = k.there;
         may = record {
-          core = is_next_of s.turns c [] entry refl (ap length (sym mine_is)) (ap (λ (x : Caller). max x.clock 0 + 1) (sym k.cells.taker));
+          core = is_next_of s.turns c [] entry refl (ap length (sym mine_is)) (ap (λ (x : Caller O R). max x.clock 0 + 1) (sym k.cells.taker));
           beside = record {
             bears = record { proc = ap (λ x. x.proc) (sym k.generations.turn); cell = refl };
-            begun = ap (λ (z : Kept). z.begun) k.trace.kept ∙ is.begun;
+            begun = ap (λ (z : Kept R). z.begun) k.trace.kept ∙ is.begun;
             act = may.act_is;
             answer = is.answered;
             generation = no_generation;
@@ -162,10 +162,10 @@ module _ {S L P : Type 0} (F : Layouts S L P) (laws : AreLaws F) (declared : Lis
         };
       }
 
-  abbrev t : Turns
+  abbrev t : Turns O R
   t = turns.effect s.turns (Alone c entry)
 
-  abbrev kept : List Kept
+  abbrev kept : List (Kept R)
   kept = kept_drawn s c (tells_abandoned answer)
 
   c_there : c < length s.turns.callers
@@ -205,7 +205,7 @@ module _ {S L P : Type 0} (F : Layouts S L P) (laws : AreLaws F) (declared : Lis
         cells = knows;
         kept_is =
             get_or-set_same s.kept c _ nothing_kept kept_there
-            ∙ ap (λ (z : Kept). record z { found = None; abandoned = tells_abandoned answer || z.abandoned }) k.trace.kept;
+            ∙ ap (λ (z : Kept R). record z { found = None; abandoned = tells_abandoned answer || z.abandoned }) k.trace.kept;
         timely = λ generation e. let no = no_generation in absurd (cc);
         handed_is = k.trace.handed;
         unhanded = k.trace.unhanded;
@@ -225,7 +225,7 @@ module _ {S L P : Type 0} (F : Layouts S L P) (laws : AreLaws F) (declared : Lis
         many_words = r.shows.many_words;
         many_slots = r.shows.many_slots;
         few_objects = r.shows.few_objects;
-        few_entries = EachPlace-set (λ d (x : Caller). length x.mine ≤ PASS_ENTRIES) s.turns.callers c (caller_drawn entry (caller_at s.turns c)) r.shows.few_entries
+        few_entries = EachPlace-set (λ d (x : Caller O R). length x.mine ≤ PASS_ENTRIES) s.turns.callers c (caller_drawn entry (caller_at s.turns c)) r.shows.few_entries
             (let less = may.few in let more = length_push (caller_at s.turns c).mine entry in let same = ap length mine_is in omega (arith, less, more, same));
         generations = r.shows.generations;
         objects = r.shows.objects;
@@ -235,9 +235,9 @@ module _ {S L P : Type 0} (F : Layouts S L P) (laws : AreLaws F) (declared : Lis
       pass_after) in
       (after.0, after.1, possible)
 
-pub alone_moves : {S L P : Type 0} (F : Layouts S L P) → AreLaws F → (declared : List L) (id : ℕ) (v : PassView P) (entry : Entry)
+pub alone_moves : {S L P O R : Type 0} (F : Layouts S L P O R) → AreLaws F → (declared : List L) (id : ℕ) (v : PassView P O R) (entry : Entry O R)
     → MayDrawAlone entry.act entry.answer v × (entry ≡ entry_alone v entry.act entry.answer)
     → Moves F declared (AtCells (Alone v.number entry)) role_word (λ word. word) (λ found. alone_view entry) id v
-alone_moves F laws declared id v entry may =
-    subst (λ (e : Entry). Moves F declared (AtCells (Alone v.number e)) role_word (λ word. word) (λ found. alone_view e) id v) (sym may.1)
+alone_moves {O} {R} F laws declared id v entry may =
+    subst (λ (e : Entry O R). Moves F declared (AtCells (Alone v.number e)) role_word (λ word. word) (λ found. alone_view e) id v) (sym may.1)
     (record { from = λ table r at. alone_draws F laws declared table r id v at entry.act entry.answer may.0 role_word })

@@ -34,7 +34,7 @@ use Rattle.k42_board.proofs.Drawers.{is_next_of}
 use Rattle.k42_board.proofs.OnePass.{known}
 
 -- an open cell that the caller has taken
-pub open_is : (s : Turns) (c n : ℕ) → (cell_at s n).lock ≡ Some c → (cell_at s n).home ≡ false → (cell_at s n).closed ≡ false → has_open s c n ≡ true
+pub open_is : {O R : Type 0} (s : Turns O R) (c n : ℕ) → (cell_at s n).lock ≡ Some c → (cell_at s n).home ≡ false → (cell_at s n).closed ≡ false → has_open s c n ≡ true
 open_is s c n lock home closed = let same = eq-eqb c c refl in rw (lock, home, closed, same) refl
 
 pub all_are : (test : ℕ → Bool) (cells : List ℕ) → ((n : ℕ) → names cells n ≡ true → test n ≡ true) → list_all test cells ≡ true
@@ -48,12 +48,12 @@ all_are test (n ∷ cells) each =
     or_right true b e = refl
     or_right false b e = e
 
-pub can_draw_of : (s : Turns) (c : ℕ) (cells : List ℕ) (entry : Entry) → names_some cells ≡ true → names_once cells ≡ true → list_all (has_open s c) cells ≡ true
+pub can_draw_of : {O R : Type 0} (s : Turns O R) (c : ℕ) (cells : List ℕ) (entry : Entry O R) → names_some cells ≡ true → names_once cells ≡ true → list_all (has_open s c) cells ≡ true
     → is_next s c cells entry ≡ true → can_draw s c cells entry ≡ true
 can_draw_of s c cells entry one two three four = rw (one, two, three, four) refl
 
 -- the row of an object that was not handed on is open
-module _ {S L P : Type 0} (F : Layouts S L P) (laws : AreLaws F) (declared : List L) (s : Joined L) (sound : IsSound F declared s) (o : ℕ) (named : o < many_objects s) where
+module _ {S L P O R : Type 0} (F : Layouts S L P O R) (laws : AreLaws F) (declared : List L) (s : Joined L O R) (sound : IsSound F declared s) (o : ℕ) (named : o < many_objects s) where
   module _ (unhanded : is_handed s o ≡ false) where
     pub hands_are : many_hands s o ≡ incarnation s o
     hands_are =
@@ -77,8 +77,8 @@ module _ {S L P : Type 0} (F : Layouts S L P) (laws : AreLaws F) (declared : Lis
       let mover = handed_moved F laws declared s sound.cells.turns sound.cells.locks sound.cells.rows sound.answers o named handed in
       moved_is_ready s.phases sound.phases mover.caller o mover.there mover.moves
 
-module _ {S L P : Type 0} (F : Layouts S L P) (laws : AreLaws F) (declared : List L)
-    (table : State (Slot P) (View P)) (r : Rule F declared table) (id : ℕ) (v : PassView P)
+module _ {S L P O R : Type 0} (F : Layouts S L P O R) (laws : AreLaws F) (declared : List L)
+    (table : State (Slot P O R) (View P O R)) (r : Rule F declared table) (id : ℕ) (v : PassView P O R)
     (at : get_elem? table.views id ≡ some (Crew (v ∷ []))) where
   -- the stamps that it has noted are those of the cells
   pub stamps_noted : (cells : List ℕ) → ((n : ℕ) → names cells n ≡ true → names (cells_noted v.notes) n ≡ true)
@@ -93,11 +93,11 @@ module _ {S L P : Type 0} (F : Layouts S L P) (laws : AreLaws F) (declared : Lis
       or_right false b e = e
 
   -- so the entry is its next
-  pub next_noted : (cells : List ℕ) (entry : Entry) → ((n : ℕ) → names cells n ≡ true → names (cells_noted v.notes) n ≡ true)
+  pub next_noted : (cells : List ℕ) (entry : Entry O R) → ((n : ℕ) → names cells n ≡ true → names (cells_noted v.notes) n ≡ true)
       → entry.caller ≡ v.number → entry.index ≡ length v.taker.mine → entry.stamp ≡ max v.taker.clock (last_noted v.notes cells) + 1
       → is_next r.state.turns v.number cells entry ≡ true
   next_noted cells entry each caller index stamp =
       let k = known F declared table r id v at in
       let taker : v.taker ≡ caller_at r.state.turns v.number = sym k.cells.taker in
-      is_next_of r.state.turns v.number cells entry caller (index ∙ ap (λ (x : Caller). length x.mine) taker)
+      is_next_of r.state.turns v.number cells entry caller (index ∙ ap (λ (x : Caller O R). length x.mine) taker)
       (stamp ∙ (λ i. max (taker i).clock (stamps_noted cells each i) + 1))

@@ -14,8 +14,6 @@ use Rattle.k42_kinds.specs.LayoutLaws.{StepsRow}
 use Rattle.k42_kinds.specs.declared.entry.Entry.{Entry}
 use Rattle.k42_kinds.specs.declared.entry.Reach.{Reach}
 use Rattle.k42_kinds.specs.declared.entry.Reach.TheVariants.{One, All}
-use Rattle.k42_kinds.specs.declared.operation.Op.{Op}
-use Rattle.k42_kinds.specs.declared.operation.Reply.{Reply}
 use Rattle.phase_core.specs.Runs.{HasRead}
 use Rattle.phase_core.specs.Stages.{IsInside, row_of}
 use Rattle.phase_core.specs.Stages as places
@@ -96,11 +94,11 @@ other_life_not i e = go (eqb i 0) refl e where
   go false is same =
       let apart : i ≢ 0 = λ zero_is. let test = eq-eqb i 0 zero_is in absurd (cc) in omega (arith, same, apart)
 
-module _ {S L P : Type 0} (F : Layouts S L P) (laws : AreLaws F) (agree : AgreeOn F) (declared : List L)
-    (table : State (Slot P) (View P)) (r : Rule F declared table) (id : ℕ) (v : PassView P)
-    (at : get_elem? table.views id ≡ some (Crew (v ∷ []))) (contents : List (Content P)) (op : Op) (reply : Reply)
+module _ {S L P O R : Type 0} (F : Layouts S L P O R) (laws : AreLaws F) (agree : AgreeOn F) (declared : List L)
+    (table : State (Slot P O R) (View P O R)) (r : Rule F declared table) (id : ℕ) (v : PassView P O R)
+    (at : get_elem? table.views id ≡ some (Crew (v ∷ []))) (contents : List (Content P O R)) (op : O) (reply : R)
     (may : MayDrawCall F declared contents op reply v) where
-  abbrev s : Joined L
+  abbrev s : Joined L O R
   s = r.state
 
   abbrev c : ℕ
@@ -115,7 +113,7 @@ module _ {S L P : Type 0} (F : Layouts S L P) (laws : AreLaws F) (agree : AgreeO
   abbrev i : ℕ
   i = row_of v.visitor.place
 
-  abbrev entry : Entry
+  abbrev entry : Entry O R
   entry = entry_at contents op reply v
 
   abbrev fresh : ℕ → Option P
@@ -176,16 +174,16 @@ module _ {S L P : Type 0} (F : Layouts S L P) (laws : AreLaws F) (agree : AgreeO
       let is : (cell s (cell_of o (incarnation s o + 1) p)).life ≡ other_life (incarnation s o) false = lives.other.life ∙ ap (other_life (incarnation s o)) unhanded in
       other_life_not (incarnation s o) (sym is ∙ sym (ap (λ j. (cell s (cell_of o (j + 1) p)).life) present.1) ∙ e ∙ hands ∙ present.1)
 
-  abbrev x : Chain L P
+  abbrev x : Chain L P O R
   x = (here F laws declared table r id v at o named).chain
 
-  abbrev row : Row L P
+  abbrev row : Row L P O R
   row = x.row
 
   was : AreRowsOf F may.declaration s o x
   was = rows_here F laws declared table r id v at o named may.declaration declares
 
-  abbrev ways : Ways S P
+  abbrev ways : Ways S P O R
   ways = F.ways_of row.layout
 
   abbrev parts : List P
@@ -225,7 +223,7 @@ module _ {S L P : Type 0} (F : Layouts S L P) (laws : AreLaws F) (agree : AgreeO
   q = ways.reach procs op v.turn.proc
 
   q_is : (F.ways_of may.layout).reach procs op v.turn.proc ≡ q
-  q_is = ap (λ (w : Ways S P). w.reach procs op v.turn.proc) same_ways
+  q_is = ap (λ (w : Ways S P O R). w.reach procs op v.turn.proc) same_ways
 
   cells_are : cells ≡ cells_reached procs o i q
   cells_are = may.named ∙ (λ j. cells_reached procs (sym self.0 j) (sym self.1 j) (q_is j))
@@ -287,12 +285,12 @@ module _ {S L P : Type 0} (F : Layouts S L P) (laws : AreLaws F) (agree : AgreeO
 
     reply_is : reply ≡ ways.part_reply found.0 op
     reply_is =
-        subst (λ (w : Ways S P). reply ≡ w.part_reply (part_due w procs v.notes o i p) op) same_ways stepped.0
+        subst (λ (w : Ways S P O R). reply ≡ w.part_reply (part_due w procs v.notes o i p) op) same_ways stepped.0
         ∙ ap (λ d. ways.part_reply d op) value_is
 
-    each_part : (place : ℕ) (content : Content P) → slice_get contents place ≡ Some content → content.part ≡ Some (ways.part_after found.0 op)
+    each_part : (place : ℕ) (content : Content P O R) → slice_get contents place ≡ Some content → content.part ≡ Some (ways.part_after found.0 op)
     each_part place content e =
-        subst (λ (w : Ways S P). content.part ≡ Some (w.part_after (part_due w procs v.notes o i p) op)) same_ways (stepped.1 place content e)
+        subst (λ (w : Ways S P O R). content.part ≡ Some (w.part_after (part_due w procs v.notes o i p) op)) same_ways (stepped.1 place content e)
         ∙ ap (λ d. Some (ways.part_after d op)) value_is
 
     once_one : names_once cells ≡ true
@@ -343,12 +341,12 @@ module _ {S L P : Type 0} (F : Layouts S L P) (laws : AreLaws F) (agree : AgreeO
 
     reply_all : reply ≡ ways.row_reply parts op
     reply_all =
-        subst (λ (z : Ways S P × ℕ). reply ≡ z.0.row_reply (parts_due z.0 procs v.notes o i z.1) op) (λ j. (same_ways j, same_tag j)) stepped.0
+        subst (λ (z : Ways S P O R × ℕ). reply ≡ z.0.row_reply (parts_due z.0 procs v.notes o i z.1) op) (λ j. (same_ways j, same_tag j)) stepped.0
         ∙ ap (λ ps. ways.row_reply ps op) all_due
 
     each_all : HaveParts (ways.row_after parts op) contents
     each_all place content e =
-        subst (λ (z : Ways S P × ℕ). content.part ≡ part_at (z.0.row_after (parts_due z.0 procs v.notes o i z.1) op) place) (λ j. (same_ways j, same_tag j)) (stepped.1 place content e)
+        subst (λ (z : Ways S P O R × ℕ). content.part ≡ part_at (z.0.row_after (parts_due z.0 procs v.notes o i z.1) op) place) (λ j. (same_ways j, same_tag j)) (stepped.1 place content e)
         ∙ ap (λ ps. part_at (ways.row_after ps op) place) all_due
 
     once_all : names_once cells ≡ true
@@ -423,7 +421,7 @@ module _ {S L P : Type 0} (F : Layouts S L P) (laws : AreLaws F) (agree : AgreeO
     reply = reply;
     answer = refl;
     replied = λ chain is.
-        subst (λ (z : Chain L P). row_replied (F.ways_of z.row.layout) (parts_of F z.row) op (reach_of F z.row.layout entry) ≡ Some reply)
+        subst (λ (z : Chain L P O R). row_replied (F.ways_of z.row.layout) (parts_of F z.row) op (reach_of F z.row.layout entry) ≡ Some reply)
         (rows_are_one F laws may.declaration s o x chain was is) (ap (row_replied ways parts op) reach_is ∙ shown.replied);
   }
 
@@ -479,7 +477,7 @@ module _ {S L P : Type 0} (F : Layouts S L P) (laws : AreLaws F) (agree : AgreeO
       }) word in
       (after.0, after.1, possible)
 
-pub drawn_moves : {S L P : Type 0} (F : Layouts S L P) → AreLaws F → AgreeOn F → (declared : List L) (id : ℕ) (v : PassView P) (contents : List (Content P)) (op : Op) (reply : Reply)
+pub drawn_moves : {S L P O R : Type 0} (F : Layouts S L P O R) → AreLaws F → AgreeOn F → (declared : List L) (id : ℕ) (v : PassView P O R) (contents : List (Content P O R)) (op : O) (reply : R)
     → MayDrawCall F declared contents op reply v
     → Moves F declared (AtCells (Draw v.number (numbers_of contents) (entry_at contents op reply v)))
     (lock_word (first_cell (numbers_of contents))) (λ word. word) (λ found. draws_at contents (entry_at contents op reply v)) id v

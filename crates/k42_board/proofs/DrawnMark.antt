@@ -50,13 +50,13 @@ use Rattle.k42_board.proofs.Moves.{Moves}
 use Rattle.k42_board.proofs.OnePass.{with_pass, known}
 
 -- an object that is over is not ready to be moved
-over_unready : (k : Object) (i : ℕ) (answer : Answer) → tells_over answer ≡ true → IsTrueOf k i answer → IsReadyToMove k → ⊥
+over_unready : {R : Type 0} (k : Object) (i : ℕ) (answer : Answer R) → tells_over answer ≡ true → IsTrueOf k i answer → IsReadyToMove k → ⊥
 over_unready k i Spent over is ready = let next = ready.next in let last = is.1 in absurd (omega (arith, next, last))
 over_unready k i Gone over is ready = let alive = ready.alive in let dead = is.1 in absurd (omega (arith, alive, dead))
 over_unready k i answer over is ready = absurd (cc)
 
 -- what is no call moves no part
-no_moves : {S P : Type 0} (ways : Ways S P) (parts : List P) (act : Act) (reach : Reach) → is_call act ≡ false → act_moves ways parts act reach ≡ parts
+no_moves : {S P O R : Type 0} (ways : Ways S P O R) (parts : List P) (act : Act O) (reach : Reach) → is_call act ≡ false → act_moves ways parts act reach ≡ parts
 no_moves ways parts (Call op) reach e = absurd (cc)
 no_moves ways parts (Swap to) reach e = refl
 
@@ -66,10 +66,10 @@ only_one n m e = go (eqb n m) refl e where
   go true same is = eqb-true n m same
   go false apart is = absurd (cc)
 
-module _ {S L P : Type 0} (F : Layouts S L P) (laws : AreLaws F) (declared : List L)
-    (table : State (Slot P) (View P)) (r : Rule F declared table) (id : ℕ) (v : PassView P)
-    (at : get_elem? table.views id ≡ some (Crew (v ∷ []))) (content : Content P) (act : Act) (answer : Answer) (may : MayDrawMark content act answer v) where
-  abbrev s : Joined L
+module _ {S L P O R : Type 0} (F : Layouts S L P O R) (laws : AreLaws F) (declared : List L)
+    (table : State (Slot P O R) (View P O R)) (r : Rule F declared table) (id : ℕ) (v : PassView P O R)
+    (at : get_elem? table.views id ≡ some (Crew (v ∷ []))) (content : Content P O R) (act : Act O) (answer : Answer R) (may : MayDrawMark content act answer v) where
+  abbrev s : Joined L O R
   s = r.state
 
   abbrev c : ℕ
@@ -84,7 +84,7 @@ module _ {S L P : Type 0} (F : Layouts S L P) (laws : AreLaws F) (declared : Lis
   abbrev i : ℕ
   i = incarnation_in (word_begun v.last)
 
-  abbrev entry : Entry
+  abbrev entry : Entry O R
   entry = entry_mark v n act answer
 
   abbrev fresh : ℕ → Option P
@@ -94,10 +94,10 @@ module _ {S L P : Type 0} (F : Layouts S L P) (laws : AreLaws F) (declared : Lis
   k = known F declared table r id v at
 
   begun : (kept_of s c).begun ≡ Some o
-  begun = ap (λ (z : Kept). z.begun) k.trace.kept ∙ begun_found v.last answer (k.trace.found answer may.found)
+  begun = ap (λ (z : Kept R). z.begun) k.trace.kept ∙ begun_found v.last answer (k.trace.found answer may.found)
 
   found : (kept_of s c).found ≡ Some answer
-  found = ap (λ (z : Kept). z.found) k.trace.kept ∙ may.found
+  found = ap (λ (z : Kept R). z.found) k.trace.kept ∙ may.found
 
   named : o < many_objects s
   named = (r.sound.answers c k.there).kept.there o begun
@@ -129,7 +129,7 @@ module _ {S L P : Type 0} (F : Layouts S L P) (laws : AreLaws F) (declared : Lis
   closed : (cell s n).closed ≡ false
   closed = ap (λ z. (cell s z).closed) number ∙ open_closed F laws declared s r.sound o named unhanded 0 some_procs
 
-  drawn_as : (told : Act) → is_call told ≡ false → IsDrawnAs F declared s c (n ∷ []) entry told
+  drawn_as : (told : Act O) → is_call told ≡ false → IsDrawnAs F declared s c (n ∷ []) entry told
   drawn_as (Call op) e = absurd (cc)
   drawn_as (Swap to) e = record {
     begun = begun;
@@ -170,7 +170,7 @@ module _ {S L P : Type 0} (F : Layouts S L P) (laws : AreLaws F) (declared : Lis
       ap (λ b. cond b content.part None) (eq-eqb n n refl) ∙ may.part
       ∙ sym (as_noted F laws declared table r id v at n may.held.noted).part
 
-  abbrev row : Row L P
+  abbrev row : Row L P O R
   row = (here F laws declared table r id v at o named).chain.row
 
   stays : (m : ℕ) → cond (names (n ∷ []) m) (fresh m) (r.beside.contents.part m) ≡ r.beside.contents.part m
@@ -197,9 +197,9 @@ module _ {S L P : Type 0} (F : Layouts S L P) (laws : AreLaws F) (declared : Lis
       }) (lock_word n) in
       (after.0, after.1, possible)
 
-pub mark_moves : {S L P : Type 0} (F : Layouts S L P) → AreLaws F → (declared : List L) (id : ℕ) (v : PassView P) (content : Content P) (entry : Entry)
+pub mark_moves : {S L P O R : Type 0} (F : Layouts S L P O R) → AreLaws F → (declared : List L) (id : ℕ) (v : PassView P O R) (content : Content P O R) (entry : Entry O R)
     → MayDrawMark content entry.act entry.answer v × (entry ≡ entry_mark v content.number entry.act entry.answer)
     → Moves F declared (AtCells (Draw v.number (content.number ∷ []) entry)) (lock_word content.number) (λ word. word) (λ found. draws_at (content ∷ []) entry) id v
-mark_moves F laws declared id v content entry may =
-    subst (λ (e : Entry). Moves F declared (AtCells (Draw v.number (content.number ∷ []) e)) (lock_word content.number) (λ word. word) (λ found. draws_at (content ∷ []) e) id v)
+mark_moves {O} {R} F laws declared id v content entry may =
+    subst (λ (e : Entry O R). Moves F declared (AtCells (Draw v.number (content.number ∷ []) e)) (lock_word content.number) (λ word. word) (λ found. draws_at (content ∷ []) e) id v)
     (sym may.1) (record { from = λ table r at. mark_draws F laws declared table r id v at content entry.act entry.answer may.0 })

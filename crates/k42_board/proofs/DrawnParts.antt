@@ -45,19 +45,19 @@ use Rattle.k42_board.proofs.Noted.{first_note}
 use Rattle.k42_board.proofs.OnePass.{known}
 
 -- the newest row has the number of the past ones
-pub row_newest : {L P : Type 0} (x : Chain L P) (i : ℕ) → i ≡ length x.past → row_in x i ≡ Some x.row
-row_newest x i same = ap (λ b. cond b (Some x.row) (option_map (λ (turn : Turn _ _). turn.row) (slice_get x.past (length x.past - 1 - i)))) (eq-eqb i (length x.past) same)
+pub row_newest : {L P O R : Type 0} (x : Chain L P O R) (i : ℕ) → i ≡ length x.past → row_in x i ≡ Some x.row
+row_newest {O} {R} x i same = ap (λ b. cond b (Some x.row) (option_map (λ (turn : Turn _ _ O R). turn.row) (slice_get x.past (length x.past - 1 - i)))) (eq-eqb i (length x.past) same)
 
-pub row_before : {L P : Type 0} (x : Chain L P) (i : ℕ) → i ≢ length x.past → row_in x i ≡ option_map (λ (turn : Turn L P). turn.row) (slice_get x.past (length x.past - 1 - i))
-row_before x i not = go (eqb i (length x.past)) refl where
-  go : (b : Bool) → eqb i (length x.past) ≡ b → cond b (Some x.row) (option_map (λ (turn : Turn _ _). turn.row) (slice_get x.past (length x.past - 1 - i))) ≡ option_map (λ (turn : Turn _ _). turn.row) (slice_get x.past (length x.past - 1 - i))
+pub row_before : {L P O R : Type 0} (x : Chain L P O R) (i : ℕ) → i ≢ length x.past → row_in x i ≡ option_map (λ (turn : Turn L P O R). turn.row) (slice_get x.past (length x.past - 1 - i))
+row_before {O} {R} x i not = go (eqb i (length x.past)) refl where
+  go : (b : Bool) → eqb i (length x.past) ≡ b → cond b (Some x.row) (option_map (λ (turn : Turn _ _ O R). turn.row) (slice_get x.past (length x.past - 1 - i))) ≡ option_map (λ (turn : Turn _ _ O R). turn.row) (slice_get x.past (length x.past - 1 - i))
   go false e = refl
   go true e = absurd (not (eqb-true i (length x.past) e))
 
-module _ {S L P : Type 0} (F : Layouts S L P) (laws : AreLaws F) (declared : List L)
-    (table : State (Slot P) (View P)) (r : Rule F declared table) (id : ℕ) (v : PassView P)
+module _ {S L P O R : Type 0} (F : Layouts S L P O R) (laws : AreLaws F) (declared : List L)
+    (table : State (Slot P O R) (View P O R)) (r : Rule F declared table) (id : ℕ) (v : PassView P O R)
     (at : get_elem? table.views id ≡ some (Crew (v ∷ []))) where
-  abbrev s : Joined L
+  abbrev s : Joined L O R
   s = r.state
 
   abbrev c : ℕ
@@ -125,20 +125,20 @@ module _ {S L P : Type 0} (F : Layouts S L P) (laws : AreLaws F) (declared : Lis
       subst (λ (z : Option P × ℕ). HasDue (F.ways_of rows.chain.row.layout) F.procs z.1 z.0 (part_of F rows.chain.row z.1)) (λ j. (is.part j, place_is j)) part
 
   -- a draw at cells of the newest row
-  module _ (cells : List ℕ) (entry : Entry) (fresh : ℕ → Option P) (possible : IsPossible F declared s (AtCells (Draw c cells entry)))
+  module _ (cells : List ℕ) (entry : Entry O R) (fresh : ℕ → Option P) (possible : IsPossible F declared s (AtCells (Draw c cells entry)))
       (once : names_once cells ≡ true) (there : (n : ℕ) → names cells n ≡ true → n < length s.turns.cells)
       (o : ℕ) (named : o < many_objects s) (object_is : entry.object ≡ o)
       (of_object : (n : ℕ) → names cells n ≡ true → (object_of n ≡ o) × ((cell s n).life ≡ many_hands s o)) where
-    abbrev t : Turns
+    abbrev t : Turns O R
     t = turns.effect s.turns (Draw c cells entry)
 
-    abbrev base : Turns
+    abbrev base : Turns O R
     base = change_caller (caller_drawn entry) s.turns c
 
-    abbrev after : Joined L
+    abbrev after : Joined L O R
     after = effect s (AtCells (Draw c cells entry))
 
-    abbrev row : Row L P
+    abbrev row : Row L P O R
     row = (here o named).chain.row
 
     abbrev part_after : ℕ → Option P
@@ -147,8 +147,8 @@ module _ {S L P : Type 0} (F : Layouts S L P) (laws : AreLaws F) (declared : Lis
     life_stays : (n : ℕ) → (cell_at t n).life ≡ (cell s n).life
     life_stays n = go (names cells n) refl where
       go : (b : Bool) → names cells n ≡ b → (cell_at t n).life ≡ (cell s n).life
-      go true e = ap (λ (x : Cell). x.life) (cell_at-named (cell_told entry) base cells n once (there n e) e)
-      go false e = ap (λ (x : Cell). x.life) (cell_at-else (cell_told entry) base cells n e)
+      go true e = ap (λ (x : Cell O R). x.life) (cell_at-named (cell_told entry) base cells n once (there n e) e)
+      go false e = ap (λ (x : Cell O R). x.life) (cell_at-else (cell_told entry) base cells n e)
 
     unnamed : (n : ℕ) → ((object_of n ≡ o) × ((cell s n).life ≡ many_hands s o) → ⊥) → names cells n ≡ false
     unnamed n not = go (names cells n) refl where
@@ -167,7 +167,7 @@ module _ {S L P : Type 0} (F : Layouts S L P) (laws : AreLaws F) (declared : Lis
         → HasDue (F.ways_of row.layout) F.procs (place_of n) (contents.part n) (part_of F row (place_of n))
         → HasDue (F.ways_of row.layout) F.procs (place_of n) (part_after n) (part_at ((part_steps F row.layout).moves (parts_of F row) entry) (place_of n))) where
       module _ (n : ℕ) (lt : n < length s.turns.cells) (declaration : L) (declares : slice_get declared (object_of n) ≡ Some declaration)
-          (y : Chain L P) (row' : Row L P) (is : AreRowsOf F declaration after (object_of n) y) (at_life : row_in y (cell_at t n).life ≡ Some row')
+          (y : Chain L P O R) (row' : Row L P O R) (is : AreRowsOf F declaration after (object_of n) y) (at_life : row_in y (cell_at t n).life ≡ Some row')
           (freed : (object s (object_of n)).freed ≤ (cell_at t n).life) where
         life : (cell_at t n).life ≡ (cell s n).life
         life = life_stays n
@@ -178,12 +178,12 @@ module _ {S L P : Type 0} (F : Layouts S L P) (laws : AreLaws F) (declared : Lis
         at_old : row_in y (cell s n).life ≡ Some row'
         at_old = ap (row_in y) (sym life) ∙ at_life
 
-        old : (x : Chain L P) (q : Row L P) → AreRowsOf F declaration s (object_of n) x → row_in x (cell s n).life ≡ Some q
+        old : (x : Chain L P O R) (q : Row L P O R) → AreRowsOf F declaration s (object_of n) x → row_in x (cell s n).life ≡ Some q
             → HasDue (F.ways_of q.layout) F.procs (place_of n) (contents.part n) (part_of F q (place_of n))
         old x q was here' = (r.parts n lt).due declaration x q declares was here' kept
 
         -- a cell that is not of the row
-        same_part : (x : Chain L P) → AreRowsOf F declaration s (object_of n) x → row_in x (cell s n).life ≡ Some row' → names cells n ≡ false
+        same_part : (x : Chain L P O R) → AreRowsOf F declaration s (object_of n) x → row_in x (cell s n).life ≡ Some row' → names cells n ≡ false
             → HasDue (F.ways_of row'.layout) F.procs (place_of n) (part_after n) (part_of F row' (place_of n))
         same_part x was here' not =
             subst (λ b. HasDue (F.ways_of row'.layout) F.procs (place_of n) (cond b (fresh n) (contents.part n)) (part_of F row' (place_of n))) (sym not)
@@ -213,7 +213,7 @@ module _ {S L P : Type 0} (F : Layouts S L P) (laws : AreLaws F) (declared : Lis
             let row_is : y.row ≡ row' = same_Some y.row row' (sym (row_newest y (cell s n).life (long ∙ ap length (sym follows.past))) ∙ at_old) in
             let due = old x x.row was' (row_newest x (cell s n).life long) in
             let due' = moved n lt same newest due in
-            subst (λ (q : Row L P). HasDue (F.ways_of q.layout) F.procs (place_of n) (part_after n) (part_of F q (place_of n))) row_is
+            subst (λ (q : Row L P O R). HasDue (F.ways_of q.layout) F.procs (place_of n) (part_after n) (part_of F q (place_of n))) row_is
             (subst (λ (z : L × List P). HasDue (F.ways_of z.0) F.procs (place_of n) (part_after n) (part_at z.1 (place_of n)))
             (λ j. (sym follows.layout j, sym follows.parts j)) due'))
             (λ further.
@@ -221,7 +221,7 @@ module _ {S L P : Type 0} (F : Layouts S L P) (laws : AreLaws F) (declared : Lis
             let apart' : (cell s n).life ≢ length y.past = λ e. apart (e ∙ ap length follows.past) in
             let old_row : row_in x (cell s n).life ≡ Some row' =
             row_before x (cell s n).life apart
-            ∙ ap (λ (past : List (Turn L P)). option_map (λ (turn : Turn L P). turn.row) (slice_get past (length past - 1 - (cell s n).life))) (sym follows.past)
+            ∙ ap (λ (past : List (Turn L P O R)). option_map (λ (turn : Turn L P O R). turn.row) (slice_get past (length past - 1 - (cell s n).life))) (sym follows.past)
             ∙ sym (row_before y (cell s n).life apart') ∙ at_old in
             same_part x was' old_row (unnamed n (λ is''. further is''.1)))
 

@@ -48,8 +48,8 @@ use Rattle.k42_board.proofs.Moves.{Moves, Finds}
 use Rattle.k42_board.proofs.OnePass.{with_pass, known}
 use Rattle.k42_board.proofs.Turning.{IsTurn, turned, visitors_after, state_after, with_counts, own_goes, rows_kept, same_swap}
 
-module _ {S L P : Type 0} (F : Layouts S L P) (laws : AreLaws F) (declared : List L)
-    (table : State (Slot P) (View P)) (r : Rule F declared table) (id : ℕ) (v : PassView P)
+module _ {S L P O R : Type 0} (F : Layouts S L P O R) (laws : AreLaws F) (declared : List L)
+    (table : State (Slot P O R) (View P O R)) (r : Rule F declared table) (id : ℕ) (v : PassView P O R)
     (at : get_elem? table.views id ≡ some (Crew (v ∷ []))) (may : MayEnter v) where
   abbrev s : Generations
   s = r.state.phases.turns
@@ -213,7 +213,7 @@ module _ {S L P : Type 0} (F : Layouts S L P) (laws : AreLaws F) (declared : Lis
       turned F laws declared table r id v at (Turn (Enter c)) g (visitor_at r.state.phases c) r.beside.counts turn_is i new (entered_view found v)
       (subst (λ z. IsOfGenerations z) (omega arith) (of_processor x.proc 0 p_few (omega arith))) generations_after pass_after
 
-enter_goes : {S L P : Type 0} (F : Layouts S L P) → AreLaws F → (declared : List L) (id i : ℕ) (v : PassView P) → MayEnter v → i ≡ generation_word v.turn.proc
+enter_goes : {S L P O R : Type 0} (F : Layouts S L P O R) → AreLaws F → (declared : List L) (id i : ℕ) (v : PassView P O R) → MayEnter v → i ≡ generation_word v.turn.proc
     → Moves F declared (AtPhases (Turn (Enter v.number))) i (λ n. (n + 2 ^ 32) % 2 ^ 64) entered_view id v
 enter_goes {S} {L} {P} F laws declared id i v may same = record {
   from = λ table r at.
@@ -223,12 +223,12 @@ enter_goes {S} {L} {P} F laws declared id i v may same = record {
       (enters F laws declared table r id v at may);
 }
 
-pub enter_moves : {S L P : Type 0} (F : Layouts S L P) → AreLaws F → (declared : List L) (id i : ℕ) (v : PassView P) → MayEnter v → i ≡ generation_word v.turn.proc
+pub enter_moves : {S L P O R : Type 0} (F : Layouts S L P O R) → AreLaws F → (declared : List L) (id i : ℕ) (v : PassView P O R) → MayEnter v → i ≡ generation_word v.turn.proc
     → Moves F declared (AtPhases (Turn (Enter v.number))) i (λ n. (n + 2 ^ 32) % 2 ^ 64) (λ found v. took steps.Enter i found (entered_view found v)) id v
 enter_moves F laws declared id i v may same =
     logged_moves steps.Enter (λ n. n) (λ found o before is. is) (enter_goes F laws declared id i v may same)
 
-pub enter_finds : {S L P : Type 0} (F : Layouts S L P) → AreLaws F → (declared : List L) (id i : ℕ) (v : PassView P) → MayEnter v → i ≡ generation_word v.turn.proc
+pub enter_finds : {S L P O R : Type 0} (F : Layouts S L P O R) → AreLaws F → (declared : List L) (id i : ℕ) (v : PassView P O R) → MayEnter v → i ≡ generation_word v.turn.proc
     → Finds F declared i EnteredFound id v
 enter_finds F laws declared id i v may same table r at =
     subst (λ j. EnteredFound v (get_or table.words j 0))

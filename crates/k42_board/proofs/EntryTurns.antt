@@ -95,8 +95,8 @@ is_next procs swap p e = absurd (cc)
 abbrev entry_for : SwapAt → ℕ → LocalEntry
 entry_for swap i = cond (is_interposing swap) (mediator_entry i) (empty_entry i)
 
-module _ {S L P : Type 0} (F : Layouts S L P) (laws : AreLaws F) (declared : List L)
-    (table : State (Slot P) (View P)) (r : Rule F declared table) (id : ℕ) (v : PassView P)
+module _ {S L P O R : Type 0} (F : Layouts S L P O R) (laws : AreLaws F) (declared : List L)
+    (table : State (Slot P O R) (View P O R)) (r : Rule F declared table) (id : ℕ) (v : PassView P O R)
     (at : get_elem? table.views id ≡ some (Crew (v ∷ []))) (p : ℕ) (may : MayChangeEntry p v) where
   abbrev s : Phases
   s = r.state.phases
@@ -117,7 +117,7 @@ module _ {S L P : Type 0} (F : Layouts S L P) (laws : AreLaws F) (declared : Lis
   procs = length s.turns.procs
 
   -- the event at the stage
-  abbrev staged_at : SwapAt → ℕ → Joined L
+  abbrev staged_at : SwapAt → ℕ → Joined L O R
   staged_at swap n =
       let l = object_at s (object_named swap) in
       record r.state {
@@ -194,7 +194,7 @@ module _ {S L P : Type 0} (F : Layouts S L P) (laws : AreLaws F) (declared : Lis
   abbrev k' : Object
   k' = put_entry k p d
 
-  abbrev after : Joined L
+  abbrev after : Joined L O R
   after = visited r.state (set s.objects o k') (set s.callers c (at_stage v.visitor swap')) r.state.kept
 
   effect_is : after ≡ effect r.state (AtPhases (entry_event c v.visitor.swap))
@@ -242,36 +242,36 @@ module _ {S L P : Type 0} (F : Layouts S L P) (laws : AreLaws F) (declared : Lis
       (few_entries F laws declared table r id v at) p_few small (slice_get-get_or s.objects o fresh_object lt) refl r.shows.objects))
       pass_after
 
-entry_goes : {S L P : Type 0} (F : Layouts S L P) → AreLaws F → (declared : List L) (id p : ℕ) (v : PassView P) → MayChangeEntry p v
+entry_goes : {S L P O R : Type 0} (F : Layouts S L P O R) → AreLaws F → (declared : List L) (id p : ℕ) (v : PassView P O R) → MayChangeEntry p v
     → Moves F declared (AtPhases (entry_event v.number v.visitor.swap)) (local_word p (object_swapped v)) (λ word. entry_after v) (λ found. changed_view) id v
 entry_goes F laws declared id p v may = record { from = λ table r at. changes F laws declared table r id v at p may }
 
-pub entry_moves : {S L P : Type 0} (F : Layouts S L P) → AreLaws F → (declared : List L) (id p : ℕ) (v : PassView P) → MayChangeEntry p v
+pub entry_moves : {S L P O R : Type 0} (F : Layouts S L P O R) → AreLaws F → (declared : List L) (id p : ℕ) (v : PassView P O R) → MayChangeEntry p v
     → Moves F declared (AtPhases (entry_event v.number v.visitor.swap)) (local_word p (object_swapped v)) (λ word. entry_after v) (λ found x. took steps.ChangeEntry (local_word p (object_swapped x)) found (changed_view x))
     id v
 entry_moves F laws declared id p v may = record { from = (logged_moves steps.ChangeEntry (λ n. n) (λ found q before is. is) (entry_goes F laws declared id p v may)).from }
 
 -- as the play tells it, of a swap for this word at the word that the step names
-module _ {S L P : Type 0} (F : Layouts S L P) (laws : AreLaws F) (declared : List L) (id p : ℕ)
-    (me : Seated P) (is : IsSeatOf me (pass_in me.0)) (may : MayChangeEntry p (pass_in me.0))
+module _ {S L P O R : Type 0} (F : Layouts S L P O R) (laws : AreLaws F) (declared : List L) (id p : ℕ)
+    (me : Seated P O R) (is : IsSeatOf me (pass_in me.0)) (may : MayChangeEntry p (pass_in me.0))
     (word o : ℕ) (at : word ≡ local_word p o) (same : object_swapped (pass_in me.0) ≡ o) (new : ℕ) (is_new : new ≡ entry_after (pass_in me.0)) where
   entry_there : word ≡ local_word p (object_swapped (pass_in me.0))
   entry_there = at ∙ ap (local_word p) (sym same)
 
-  abbrev entry_row : ℕ → PassView P → PassView P
+  abbrev entry_row : ℕ → PassView P O R → PassView P O R
   entry_row found x = took steps.ChangeEntry (local_word p (object_swapped x)) found (changed_view x)
 
-  abbrev entry_play : ℕ → PassView P → PassView P
+  abbrev entry_play : ℕ → PassView P O R → PassView P O R
   entry_play found x = took steps.ChangeEntry word found (changed_view x)
 
   entry_same : (found : ℕ) → entry_row found (pass_in me.0) ≡ entry_play found (pass_in me.0)
   entry_same found = ap (λ i. took steps.ChangeEntry i found (changed_view (pass_in me.0))) (sym entry_there)
 
-  pub entry_allowed : {callers : ℕ} (slots : ℕ) (step : Step (Slot P))
+  pub entry_allowed : {callers : ℕ} (slots : ℕ) (step : Step (Slot P O R))
       → Allows (Ruled F declared callers) slots id me word (λ n. new) (Tells entry_play step me)
   entry_allowed {callers} slots step =
       subst (λ (z : ℕ). Allows (Ruled F declared callers) slots id me word (λ n. z) (Tells entry_play step me)) (sym is_new)
       (retold_allowed entry_row entry_play entry_same (entry_moves F laws declared id p (pass_in me.0) may) me is word entry_there slots step)
 
-  pub entry_told : (step : Step (Slot P)) (found : ℕ) (after : Seated P) → Tells entry_play step me found after → Tells entry_row step me found after
+  pub entry_told : (step : Step (Slot P O R)) (found : ℕ) (after : Seated P O R) → Tells entry_play step me found after → Tells entry_row step me found after
   entry_told step found after told = retold entry_row entry_play entry_same me after is step found told

@@ -65,7 +65,7 @@ few_rows rows low once =
     let few = length-le_from_distinct_below (map number_of rows) MOST_ROWS (numbers_distinct rows low once) (numbers_low rows low) in
     let same : length (map number_of rows) ≡ length rows = length-map rows number_of in omega (arith, few, same)
 
-module _ {S L P : Type 0} (F : Layouts S L P) (declared : List L) (id : ℕ) (v : PassView P) where
+module _ {S L P O R : Type 0} (F : Layouts S L P O R) (declared : List L) (id : ℕ) (v : PassView P O R) where
   pub finds_few : Finds F declared 0 HoldsFew id v
   finds_few table r at =
       let knows = known F declared table r id v at in

@@ -24,14 +24,14 @@ same_everywhere zero i a = refl
 same_everywhere (suc n) zero a = refl
 same_everywhere (suc n) (suc i) a = same_everywhere n i a
 
-made_due : {S P : Type 0} (ways : Ways S P) (procs first cells place : ℕ)
+made_due : {S P O R : Type 0} (ways : Ways S P O R) (procs first cells place : ℕ)
     → HasDue ways procs (first + place) None (part_at (made_from (ways.empty procs) first cells) place)
 made_due ways procs first zero place = tt
 made_due ways procs first (suc cells) zero = ap (ways.empty procs) (omega arith)
 made_due ways procs first (suc cells) (suc place) =
     subst (λ z. HasDue ways procs z None (part_at (made_from (ways.empty procs) (suc first) cells) place)) (omega arith) (made_due ways procs (suc first) cells place)
 
-none_of : (entries : List Entry) → AllByRecursion (λ e. ⊥) entries → entries ≡ []
+none_of : {O R : Type 0} (entries : List (Entry O R)) → AllByRecursion (λ e. ⊥) entries → entries ≡ []
 none_of [] all = refl
 none_of (e ∷ entries) all = absurd all.0
 
@@ -42,8 +42,8 @@ no_past f (x ∷ xs) e = absurd (cc)
 tail_of : {A : Type 0} (x y : A) (xs ys : List A) → x ∷ xs ≡ y ∷ ys → xs ≡ ys
 tail_of x y xs ys e = cc
 
-module _ {S L P : Type 0} (F : Layouts S L P) (laws : AreLaws F) (declared : List L) (callers : List ℕ) where
-  abbrev s : Joined L
+module _ {S L P O R : Type 0} (F : Layouts S L P O R) (laws : AreLaws F) (declared : List L) (callers : List ℕ) where
+  abbrev s : Joined L O R
   s = fresh F declared callers
 
   pub no_hands : (o : ℕ) → layouts_of s o ≡ []
@@ -53,25 +53,25 @@ module _ {S L P : Type 0} (F : Layouts S L P) (laws : AreLaws F) (declared : Lis
   cell_new n = get_or-map fresh_cell (first_lives (length declared)) n 0
 
   history_empty : (o row p : ℕ) → history_in s o row p ≡ []
-  history_empty o row p = ap (λ (x : Cell). get_or (x.past ++ x.history ∷ []) (row / 2) []) (cell_new (cell_of o row p)) ∙ one (row / 2) where
-    one : (k : ℕ) → get_or {A = List Entry} ([] ∷ []) k [] ≡ []
+  history_empty o row p = ap (λ (x : Cell O R). get_or (x.past ++ x.history ∷ []) (row / 2) []) (cell_new (cell_of o row p)) ∙ one (row / 2) where
+    one : (k : ℕ) → get_or {A = List (Entry O R)} ([] ∷ []) k [] ≡ []
     one zero = refl
     one (suc k) = refl
 
-  due_first : (chain : Chain L P) (row : Row L P) (life place : ℕ) → chain.past ≡ [] → chain.row.entries ≡ []
+  due_first : (chain : Chain L P O R) (row : Row L P O R) (life place : ℕ) → chain.past ≡ [] → chain.row.entries ≡ []
       → chain.row.start ≡ start_of F [] chain.row.layout → row_in chain life ≡ Some row
       → HasDue (F.ways_of row.layout) F.procs place None (part_of F row place)
   due_first chain row life place no_turn no_entry started here = by_test (eqb life (length chain.past)) here where
     by_test : (b : Bool) → cond b (Some chain.row) (option_map (λ turn. turn.row) (slice_get chain.past (length chain.past - 1 - life))) ≡ Some row
         → HasDue (F.ways_of row.layout) F.procs place None (part_of F row place)
     by_test true is =
-        subst (λ (z : Row L P). HasDue (F.ways_of z.layout) F.procs place None (part_of F z place)) (same_Some chain.row row is)
+        subst (λ (z : Row L P O R). HasDue (F.ways_of z.layout) F.procs place None (part_of F z place)) (same_Some chain.row row is)
         (subst (λ (parts : List P). HasDue (F.ways_of chain.row.layout) F.procs place None (part_at parts place))
         (sym (rw no_entry started))
         (subst
         (λ z. HasDue (F.ways_of chain.row.layout) F.procs z None (part_at (made_from ((F.ways_of chain.row.layout).empty F.procs) 0 (cells_of (F.tag_of chain.row.layout) F.procs)) place))
         (omega arith) (made_due (F.ways_of chain.row.layout) F.procs 0 (cells_of (F.tag_of chain.row.layout) F.procs) place)))
-    by_test false is = absurd (none (ap (λ (past : List (Turn L P)). option_map (λ turn. turn.row) (slice_get past (length chain.past - 1 - life))) (sym no_turn) ∙ is)) where
+    by_test false is = absurd (none (ap (λ (past : List (Turn L P O R)). option_map (λ turn. turn.row) (slice_get past (length chain.past - 1 - life))) (sym no_turn) ∙ is)) where
       none : None ≡ Some row → ⊥
       none e = cc
 

@@ -56,8 +56,8 @@ some_told : (coming : Option ℕ) (low : ℕ) → option_map (λ exits. exits % 
 some_told None low e = absurd (cc)
 some_told (Some exits) low e = (refl, same_Some (exits % 2 ^ 32) low e)
 
-module _ {S L P : Type 0} (F : Layouts S L P) (laws : AreLaws F) (declared : List L)
-    (table : State (Slot P) (View P)) (r : Rule F declared table) (id : ℕ) (v : PassView P)
+module _ {S L P O R : Type 0} (F : Layouts S L P O R) (laws : AreLaws F) (declared : List L)
+    (table : State (Slot P O R) (View P O R)) (r : Rule F declared table) (id : ℕ) (v : PassView P O R)
     (at : get_elem? table.views id ≡ some (Crew (v ∷ []))) (p : ℕ) (may : MayFlip p v) where
   abbrev c : ℕ
   c = v.number
@@ -274,14 +274,14 @@ module _ {S L P : Type 0} (F : Layouts S L P) (laws : AreLaws F) (declared : Lis
       turned F laws declared table r id v at (Turn (Flip c)) g (visitor_at r.state.phases c) r.beside.counts turn_is i (flip_word v) (flipped_view found v)
       (subst (λ z. IsOfGenerations z) (omega arith) (of_processor p 0 p_few (omega arith))) generations_after pass_after
 
-pub flip_moves : {S L P : Type 0} (F : Layouts S L P) → AreLaws F → (declared : List L) (id i p : ℕ) (v : PassView P) → MayFlip p v → i ≡ generation_word p
+pub flip_moves : {S L P O R : Type 0} (F : Layouts S L P O R) → AreLaws F → (declared : List L) (id i p : ℕ) (v : PassView P O R) → MayFlip p v → i ≡ generation_word p
     → Moves F declared (AtPhases (Turn (Flip v.number))) i (λ word. flip_word v) (λ found v. took steps.Flip i found (flipped_view found v)) id v
 flip_moves {S} {L} {P} F laws declared id i p v may same = logged_moves_at steps.Flip (λ n. n) (λ found o before is. is) same goes where
   goes : Moves F declared (AtPhases (Turn (Flip v.number))) (generation_word p) (λ word. flip_word v) flipped_view id v
   goes = record { from = λ table r at. flips_on F laws declared table r id v at p may }
 
-pub flip_allowed : {S L P : Type 0} (F : Layouts S L P) → AreLaws F → (declared : List L) (id callers i p : ℕ) (v : PassView P) (me : Seated P) → IsSeatOf me v
-    → MayFlip p v → i ≡ generation_word p → (stored : ℕ) → stored ≡ flip_word v → (slots : ℕ) (step : Step (Slot P))
+pub flip_allowed : {S L P O R : Type 0} (F : Layouts S L P O R) → AreLaws F → (declared : List L) (id callers i p : ℕ) (v : PassView P O R) (me : Seated P O R) → IsSeatOf me v
+    → MayFlip p v → i ≡ generation_word p → (stored : ℕ) → stored ≡ flip_word v → (slots : ℕ) (step : Step (Slot P O R))
     → Allows (Ruled F declared callers) slots id me i (λ n. stored) (Tells (λ found v. took steps.Flip i found (flipped_view found v)) step me)
 flip_allowed F laws declared id callers i p v me is may here stored same slots step =
     subst (λ (z : ℕ). Allows (Ruled F declared callers) slots id me i (λ n. z) (Tells (λ found v. took steps.Flip i found (flipped_view found v)) step me)) (sym same)

@@ -82,8 +82,8 @@ freed_written words objects o k n wide many long small here shown =
 freed_object_is : (o : ℕ) → freed_object (freed_word o) ≡ o
 freed_object_is o = omega arith
 
-module _ {S L P : Type 0} (F : Layouts S L P) (laws : AreLaws F) (declared : List L)
-    (table : State (Slot P) (View P)) (r : Rule F declared table) (id : ℕ) (v : PassView P)
+module _ {S L P O R : Type 0} (F : Layouts S L P O R) (laws : AreLaws F) (declared : List L)
+    (table : State (Slot P O R) (View P O R)) (r : Rule F declared table) (id : ℕ) (v : PassView P O R)
     (at : get_elem? table.views id ≡ some (Crew (v ∷ []))) (objects o : ℕ) (may : MayFree objects o v) where
   abbrev s : Phases
   s = r.state.phases
@@ -200,10 +200,10 @@ module _ {S L P : Type 0} (F : Layouts S L P) (laws : AreLaws F) (declared : Lis
   abbrev y : Visitor
   y = record v.visitor { freeing = set v.visitor.freeing o (found, n) }
 
-  abbrev w : PassView P
+  abbrev w : PassView P O R
   w = took steps.Free (freed_word o) found (record v { visitor = y })
 
-  abbrev t : Joined L
+  abbrev t : Joined L O R
   t = visited r.state (set s.objects o k') (set s.callers c x) r.state.kept
 
   x_is : x ≡ y
@@ -285,7 +285,7 @@ module _ {S L P : Type 0} (F : Layouts S L P) (laws : AreLaws F) (declared : Lis
 
   -- or not: nothing is freed
 
-  abbrev w' : PassView P
+  abbrev w' : PassView P O R
   w' = took steps.Free (freed_word o) found v
 
   nothing_freed : m ≤ k.freed → Steps F declared r.state (AtPhases (phases.Free c o)) (with_pass table (set table.words (freed_word o) found) table.homes id w')
@@ -314,13 +314,13 @@ module _ {S L P : Type 0} (F : Layouts S L P) (laws : AreLaws F) (declared : Lis
         subst (λ (z : ℕ). Steps F declared r.state (AtPhases (phases.Free c o)) (with_pass table (set table.words (freed_word o) z) table.homes id w'))
         (sym (max-eq_left {n = found} {m = n} more)) (nothing_freed (omega (arith, more, is, number)))
 
-pub free_moves : {S L P : Type 0} (F : Layouts S L P) → AreLaws F → (declared : List L) (id i objects o : ℕ) (v : PassView P) → MayFree objects o v → i ≡ freed_word o
+pub free_moves : {S L P O R : Type 0} (F : Layouts S L P O R) → AreLaws F → (declared : List L) (id i objects o : ℕ) (v : PassView P O R) → MayFree objects o v → i ≡ freed_word o
     → Moves F declared (AtPhases (phases.Free v.number o)) i (λ word. max word (number_noted v o)) (λ found v. took steps.Free i found (freed_view o found v)) id v
 free_moves F laws declared id i objects o v may same =
     subst (λ (j : ℕ). Moves F declared (AtPhases (phases.Free v.number o)) j (λ word. max word (number_noted v o)) (λ found v. took steps.Free j found (freed_view o found v)) id v)
     (sym same) (record { from = λ table r at. frees_on F laws declared table r id v at objects o may })
 
-free_finds : {S L P : Type 0} (F : Layouts S L P) → AreLaws F → (declared : List L) (id i objects o : ℕ) (v : PassView P) → MayFree objects o v → i ≡ freed_word o
+free_finds : {S L P O R : Type 0} (F : Layouts S L P O R) → AreLaws F → (declared : List L) (id i objects o : ℕ) (v : PassView P O R) → MayFree objects o v → i ≡ freed_word o
     → Finds F declared i (MarkFound o) id v
 free_finds F laws declared id i objects o v may same table r at =
     subst (λ (j : ℕ). MarkFound o v (get_or table.words j 0)) (sym same) (mark_found F laws declared table r id v at objects o may)
@@ -329,8 +329,8 @@ free_finds F laws declared id i objects o v may same table r at =
 object_of_word : (i o : ℕ) → i ≡ freed_word o → freed_object i ≡ o
 object_of_word i o same = ap freed_object same ∙ freed_object_is o
 
-pub free_allowed : {S L P : Type 0} (F : Layouts S L P) → AreLaws F → (declared : List L) (id callers i objects o : ℕ) (v : PassView P) (me : Seated P) → IsSeatOf me v
-    → MayFree objects o v → i ≡ freed_word o → (number : ℕ) → number_noted v o ≡ number → (slots : ℕ) (step : Step (Slot P))
+pub free_allowed : {S L P O R : Type 0} (F : Layouts S L P O R) → AreLaws F → (declared : List L) (id callers i objects o : ℕ) (v : PassView P O R) (me : Seated P O R) → IsSeatOf me v
+    → MayFree objects o v → i ≡ freed_word o → (number : ℕ) → number_noted v o ≡ number → (slots : ℕ) (step : Step (Slot P O R))
     → Allows (Ruled F declared callers) slots id me i (λ n. max n number)
     (TellsWith (λ found v. took steps.Free i found (freed_view (freed_object i) found v)) (MarkFound (freed_object i)) step me)
 free_allowed F laws declared id callers i objects o v me is may here number same slots step =
@@ -339,7 +339,7 @@ free_allowed F laws declared id callers i objects o v me is may here number same
     (seat_allowed_with (free_moves F laws declared id i objects o v may here) (MarkFound o) (free_finds F laws declared id i objects o v may here) me is slots step)
 
 -- what the step tells is of this object
-pub free_told : {P : Type 0} (i o : ℕ) (me after : Seated P) → i ≡ freed_word o → (step : Step (Slot P)) (found : ℕ)
+pub free_told : {P O R : Type 0} (i o : ℕ) (me after : Seated P O R) → i ≡ freed_word o → (step : Step (Slot P O R)) (found : ℕ)
     → TellsWith (λ found v. took steps.Free i found (freed_view (freed_object i) found v)) (MarkFound (freed_object i)) step me found after
     → TellsWith (λ found v. took steps.Free i found (freed_view o found v)) (MarkFound o) step me found after
 free_told i o me after here step found told =

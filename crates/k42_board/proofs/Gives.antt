@@ -73,8 +73,8 @@ no_span n o = by_test (ltb o n) refl where
   by_test false e =
       get_or_past (replicate n (0, 0)) o (0, 0) (let past = ltb-false o n e in let long = length-replicate {A = ℕ × ℕ} n (0, 0) in omega (arith, past, long))
 
-module _ {S L P : Type 0} (F : Layouts S L P) (laws : AreLaws F) (declared : List L)
-    (table : State (Slot P) (View P)) (r : Rule F declared table) (id : ℕ) (v : PassView P)
+module _ {S L P O R : Type 0} (F : Layouts S L P O R) (laws : AreLaws F) (declared : List L)
+    (table : State (Slot P O R) (View P O R)) (r : Rule F declared table) (id : ℕ) (v : PassView P O R)
     (at : get_elem? table.views id ≡ some (Crew (v ∷ []))) (may : MayGiveRole v) where
   abbrev c : ℕ
   c = v.number
@@ -85,7 +85,7 @@ module _ {S L P : Type 0} (F : Layouts S L P) (laws : AreLaws F) (declared : Lis
   abbrev x : Caller
   x = caller_at s c
 
-  abbrev w : PassView P
+  abbrev w : PassView P O R
   w = given_view v
 
   mine : KnowsPass F.tag_of r.state r.beside id v
@@ -142,7 +142,7 @@ module _ {S L P : Type 0} (F : Layouts S L P) (laws : AreLaws F) (declared : Lis
       may = record {
         objects = tt;
         core = rw (can, may_give_it) refl;
-        beside = ap (λ (z : turns.Caller). holds_none z.held) mine.cells.taker ∙ may.free;
+        beside = ap (λ (z : turns.Caller O R). holds_none z.held) mine.cells.taker ∙ may.free;
       };
     };
     effect_is = refl;
@@ -209,18 +209,18 @@ module _ {S L P : Type 0} (F : Layouts S L P) (laws : AreLaws F) (declared : Lis
   pub rows_given : (found : ℕ) → RowsGiven v found
   rows_given found = mine.phases.rows.granted
 
-pub give_moves : {S L P : Type 0} (F : Layouts S L P) → AreLaws F → (declared : List L) (id : ℕ) (v : PassView P) → MayGiveRole v
+pub give_moves : {S L P O R : Type 0} (F : Layouts S L P O R) → AreLaws F → (declared : List L) (id : ℕ) (v : PassView P O R) → MayGiveRole v
     → Moves F declared (AtPhases (Turn (GiveRole v.number))) role_word (λ word. 0) (λ found v. took steps.GiveRole role_word 0 (given_view v)) id v
 give_moves {S} {L} {P} F laws declared id v may = logged_moves steps.GiveRole (λ n. 0) (λ found o before is. is) goes where
   goes : Moves F declared (AtPhases (Turn (GiveRole v.number))) role_word (λ word. 0) (λ found x. given_view x) id v
   goes = record { from = λ table r at. gives_on F laws declared table r id v at may }
 
-pub give_finds : {S L P : Type 0} (F : Layouts S L P) → AreLaws F → (declared : List L) (id : ℕ) (v : PassView P) → MayGiveRole v
+pub give_finds : {S L P O R : Type 0} (F : Layouts S L P O R) → AreLaws F → (declared : List L) (id : ℕ) (v : PassView P O R) → MayGiveRole v
     → Finds F declared role_word RowsGiven id v
 give_finds F laws declared id v may table r at = rows_given F laws declared table r id v at may (get_or table.words role_word 0)
 
-pub give_allowed : {S L P : Type 0} (F : Layouts S L P) → AreLaws F → (declared : List L) (id callers : ℕ) (v : PassView P) (me : Seated P) → IsSeatOf me v
-    → MayGiveRole v → (slots : ℕ) (step : Step (Slot P))
+pub give_allowed : {S L P O R : Type 0} (F : Layouts S L P O R) → AreLaws F → (declared : List L) (id callers : ℕ) (v : PassView P O R) (me : Seated P O R) → IsSeatOf me v
+    → MayGiveRole v → (slots : ℕ) (step : Step (Slot P O R))
     → Allows (Ruled F declared callers) slots id me role_word (λ n. 0) (λ n. TellsWith (λ stored v. took steps.GiveRole role_word 0 (given_view v)) RowsGiven step me 0)
 give_allowed F laws declared id callers v me is may slots step =
     seat_allowed_with (give_moves F laws declared id v may) RowsGiven (give_finds F laws declared id v may) me is slots step

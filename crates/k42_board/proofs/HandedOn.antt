@@ -89,7 +89,7 @@ once_both (x ∷ xs) ys one two apart =
 
 -- the parts of two lists of cells
 
-part_left : {P : Type 0} (from onto : List (Content P)) (n : ℕ) → names (numbers_of from) n ≡ true → part_in (from ++ onto) n ≡ part_in from n
+part_left : {P O R : Type 0} (from onto : List (Content P O R)) (n : ℕ) → names (numbers_of from) n ≡ true → part_in (from ++ onto) n ≡ part_in from n
 part_left [] onto n e = absurd (cc)
 part_left (content ∷ from) onto n e = go (eqb content.number n) e (part_left from onto n) where
   go : (b : Bool) → b || names (numbers_of from) n ≡ true → (names (numbers_of from) n ≡ true → part_in (from ++ onto) n ≡ part_in from n)
@@ -97,7 +97,7 @@ part_left (content ∷ from) onto n e = go (eqb content.number n) e (part_left f
   go true e rest = refl
   go false e rest = rest e
 
-part_right : {P : Type 0} (from onto : List (Content P)) (n : ℕ) → names (numbers_of from) n ≡ false → part_in (from ++ onto) n ≡ part_in onto n
+part_right : {P O R : Type 0} (from onto : List (Content P O R)) (n : ℕ) → names (numbers_of from) n ≡ false → part_in (from ++ onto) n ≡ part_in onto n
 part_right [] onto n e = refl
 part_right (content ∷ from) onto n e = go (eqb content.number n) e (part_right from onto n) where
   go : (b : Bool) → b || names (numbers_of from) n ≡ false → (names (numbers_of from) n ≡ false → part_in (from ++ onto) n ≡ part_in onto n)
@@ -106,25 +106,25 @@ part_right (content ∷ from) onto n e = go (eqb content.number n) e (part_right
   go false e rest = rest e
 
 -- where a life waits, it may begin
-may_begin_of : (i : ℕ) (y : Cell) (closed : Bool) → IsWaiting i y closed → i < LAST_INCARNATION → may_begin y ≡ true
+may_begin_of : {O R : Type 0} (i : ℕ) (y : Cell O R) (closed : Bool) → IsWaiting i y closed → i < LAST_INCARNATION → may_begin y ≡ true
 may_begin_of i y true is low =
     let life = is.life in
     ap (λ b. cond b (ltb y.life (2 ^ 32 - 2)) (is_empty y.history)) is.closed_is ∙ lt-ltb y.life (2 ^ 32 - 2) (omega (arith, life, low))
 may_begin_of i y false is low =
     ap (λ b. cond b (ltb y.life (2 ^ 32 - 2)) (is_empty y.history)) is.closed_is ∙ ap is_empty (is.history refl)
 
-beginning_is : (s : Turns) (c n : ℕ) → (cell_at s n).lock ≡ Some c → (cell_at s n).home ≡ false → may_begin (cell_at s n) ≡ true → has_beginning s c n ≡ true
+beginning_is : {O R : Type 0} (s : Turns O R) (c n : ℕ) → (cell_at s n).lock ≡ Some c → (cell_at s n).home ≡ false → may_begin (cell_at s n) ≡ true → has_beginning s c n ≡ true
 beginning_is s c n lock home may = let same = eq-eqb c c refl in rw (lock, home, may, same) refl
 
-can_hand_of : (s : Turns) (c : ℕ) (from onto : List ℕ) (entry : Entry) → names_once (from ++ onto) ≡ true → list_all (has_open s c) from ≡ true
+can_hand_of : {O R : Type 0} (s : Turns O R) (c : ℕ) (from onto : List ℕ) (entry : Entry O R) → names_once (from ++ onto) ≡ true → list_all (has_open s c) from ≡ true
     → list_all (has_beginning s c) onto ≡ true → is_next s c (from ++ onto) entry ≡ true → can_hand s c from onto entry ≡ true
 can_hand_of s c from onto entry one two three four = rw (one, two, three, four) refl
 
-module _ {S L P : Type 0} (F : Layouts S L P) (laws : AreLaws F) (agree : AreOneWay F) (declared : List L)
-    (table : State (Slot P) (View P)) (r : Rule F declared table) (id : ℕ) (v : PassView P)
-    (at : get_elem? table.views id ≡ some (Crew (v ∷ []))) (from onto : List (Content P)) (to : L) (answer : Answer)
+module _ {S L P O R : Type 0} (F : Layouts S L P O R) (laws : AreLaws F) (agree : AreOneWay F) (declared : List L)
+    (table : State (Slot P O R) (View P O R)) (r : Rule F declared table) (id : ℕ) (v : PassView P O R)
+    (at : get_elem? table.views id ≡ some (Crew (v ∷ []))) (from onto : List (Content P O R)) (to : L) (answer : Answer R)
     (may : MayHandOn F declared from onto to answer v) where
-  abbrev s : Joined L
+  abbrev s : Joined L O R
   s = r.state
 
   abbrev c : ℕ
@@ -145,7 +145,7 @@ module _ {S L P : Type 0} (F : Layouts S L P) (laws : AreLaws F) (agree : AreOne
   abbrev procs : ℕ
   procs = many_procs s
 
-  abbrev entry : Entry
+  abbrev entry : Entry O R
   entry = entry_hand v closing opening (F.act_of to) answer
 
   abbrev fresh : ℕ → Option P
@@ -283,7 +283,7 @@ module _ {S L P : Type 0} (F : Layouts S L P) (laws : AreLaws F) (agree : AreOne
 
   -- the parts
 
-  abbrev x : Chain L P
+  abbrev x : Chain L P O R
   x = (here F laws declared table r id v at o named).chain
 
   rows : AreRowsOf F may.declaration s o x
@@ -383,9 +383,9 @@ module _ {S L P : Type 0} (F : Layouts S L P) (laws : AreLaws F) (agree : AreOne
       }) n in
       (after.0, after.1, possible)
 
-pub hand_moves : {S L P : Type 0} (F : Layouts S L P) → AreLaws F → AreOneWay F → (declared : List L) (id : ℕ) (v : PassView P) (from onto : List (Content P)) (to : L) (entry : Entry)
+pub hand_moves : {S L P O R : Type 0} (F : Layouts S L P O R) → AreLaws F → AreOneWay F → (declared : List L) (id : ℕ) (v : PassView P O R) (from onto : List (Content P O R)) (to : L) (entry : Entry O R)
     → MayHandOn F declared from onto to entry.answer v × (entry ≡ entry_hand v (numbers_of from) (numbers_of onto) (F.act_of to) entry.answer) → (n : ℕ)
     → Moves F declared (HandWith v.number (numbers_of from) (numbers_of onto) to entry) n (λ word. word) (λ found. hands_at from onto entry (F.tag_of to)) id v
-hand_moves F laws agree declared id v from onto to entry may n =
-    subst (λ (e : Entry). Moves F declared (HandWith v.number (numbers_of from) (numbers_of onto) to e) n (λ word. word) (λ found. hands_at from onto e (F.tag_of to)) id v)
+hand_moves {O} {R} F laws agree declared id v from onto to entry may n =
+    subst (λ (e : Entry O R). Moves F declared (HandWith v.number (numbers_of from) (numbers_of onto) to e) n (λ word. word) (λ found. hands_at from onto e (F.tag_of to)) id v)
     (sym may.1) (record { from = λ table r at. hand_steps F laws agree declared table r id v at from onto to entry.answer may.0 n })

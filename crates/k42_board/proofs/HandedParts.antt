@@ -42,33 +42,33 @@ use Rattle.k42_board.proofs.RowCells.{of_parity, no_part, due_self, few_cells_of
 
 -- the rows of a chain to which one was added
 
-abbrev row_of_turn : {L P : Type 0} → Turn L P → Row L P
+abbrev row_of_turn : {L P O R : Type 0} → Turn L P O R → Row L P O R
 row_of_turn turn = turn.row
 
-pub row_last : {L P : Type 0} (x y : Chain L P) (done : Entry) (j : ℕ) → y.past ≡ record { row = x.row; done = done } ∷ x.past → length x.past ≤ j → j ≢ suc (length x.past)
+pub row_last : {L P O R : Type 0} (x y : Chain L P O R) (done : Entry O R) (j : ℕ) → y.past ≡ record { row = x.row; done = done } ∷ x.past → length x.past ≤ j → j ≢ suc (length x.past)
     → row_in y j ≡ Some x.row
-row_last x y done j past low not =
+row_last {O} {R} x y done j past low not =
     let long : length y.past ≡ suc (length x.past) = ap length past in
     let none : suc (length x.past) - 1 - j ≡ 0 = omega (arith, low) in
     row_before y j (λ e. not (e ∙ long))
-    ∙ ap (λ (turns : List (Turn _ _)). option_map row_of_turn (slice_get turns (length turns - 1 - j))) past
+    ∙ ap (λ (turns : List (Turn _ _ O R)). option_map row_of_turn (slice_get turns (length turns - 1 - j))) past
     ∙ ap (λ n. option_map row_of_turn (slice_get (record { row = x.row; done = done } ∷ x.past) n)) none
 
-pub row_older : {L P : Type 0} (x y : Chain L P) (done : Entry) (j : ℕ) → y.past ≡ record { row = x.row; done = done } ∷ x.past → j < length x.past
+pub row_older : {L P O R : Type 0} (x y : Chain L P O R) (done : Entry O R) (j : ℕ) → y.past ≡ record { row = x.row; done = done } ∷ x.past → j < length x.past
     → row_in y j ≡ row_in x j
-row_older x y done j past less =
+row_older {O} {R} x y done j past less =
     let long : length y.past ≡ suc (length x.past) = ap length past in
     let further : suc (length x.past) - 1 - j ≡ suc (length x.past - 1 - j) = omega (arith, less) in
     row_before y j (λ e. omega (arith, e, long, less))
-    ∙ ap (λ (turns : List (Turn _ _)). option_map row_of_turn (slice_get turns (length turns - 1 - j))) past
+    ∙ ap (λ (turns : List (Turn _ _ O R)). option_map row_of_turn (slice_get turns (length turns - 1 - j))) past
     ∙ ap (λ n. option_map row_of_turn (slice_get (record { row = x.row; done = done } ∷ x.past) n)) further
     ∙ sym (row_before x j (λ e. omega (arith, e, less)))
 
-module _ {S L P : Type 0} (F : Layouts S L P) (laws : AreLaws F) (declared : List L)
-    (table : State (Slot P) (View P)) (r : Rule F declared table) (id : ℕ) (v : PassView P)
-    (at : get_elem? table.views id ≡ some (Crew (v ∷ []))) (from onto : List ℕ) (to : L) (entry : Entry) (fresh : ℕ → Option P)
+module _ {S L P O R : Type 0} (F : Layouts S L P O R) (laws : AreLaws F) (declared : List L)
+    (table : State (Slot P O R) (View P O R)) (r : Rule F declared table) (id : ℕ) (v : PassView P O R)
+    (at : get_elem? table.views id ≡ some (Crew (v ∷ []))) (from onto : List ℕ) (to : L) (entry : Entry O R) (fresh : ℕ → Option P)
     (possible : IsPossible F declared r.state (HandWith v.number from onto to entry)) (named : entry.object < many_objects r.state) where
-  abbrev s : Joined L
+  abbrev s : Joined L O R
   s = r.state
 
   abbrev c : ℕ
@@ -86,10 +86,10 @@ module _ {S L P : Type 0} (F : Layouts S L P) (laws : AreLaws F) (declared : Lis
   abbrev contents : Contents P
   contents = r.beside.contents
 
-  abbrev t : Joined L
+  abbrev t : Joined L O R
   t = effect s (HandWith c from onto to entry)
 
-  abbrev x : Chain L P
+  abbrev x : Chain L P O R
   x = (here F laws declared table r id v at o named).chain
 
   abbrev pub part_after : ℕ → Option P
@@ -159,15 +159,15 @@ module _ {S L P : Type 0} (F : Layouts S L P) (laws : AreLaws F) (declared : Lis
 
   life_closed : (p : ℕ) → p < procs → (cell t (cell_of o i p)).life ≡ i
   life_closed p lt =
-      ap (λ (z : Cell). z.life) (at_present F declared s r.sound.cells.locks c from onto to entry possible.may named p lt) ∙ (lives p lt).present.life
+      ap (λ (z : Cell O R). z.life) (at_present F declared s r.sound.cells.locks c from onto to entry possible.may named p lt) ∙ (lives p lt).present.life
 
   life_begun : (p : ℕ) → p < procs → (cell t (cell_of o (i + 1) p)).life ≡ i + 1
   life_begun p lt =
-      ap (λ (z : Cell). z.life) (at_next F declared s r.sound.cells.locks c from onto to entry possible.may named p lt)
+      ap (λ (z : Cell O R). z.life) (at_next F declared s r.sound.cells.locks c from onto to entry possible.may named p lt)
       ∙ (cell_begins i (cell_in s o i p) (cell_in s o (i + 1) p) entry (lives p lt)).life
 
   life_else : (n : ℕ) → IsElse n → (cell t n).life ≡ (cell s n).life
-  life_else n is = ap (λ (z : Cell). z.life) (at_unnamed F declared s r.sound.cells.locks c from onto to entry possible.may named n is.unclosed is.unbegun)
+  life_else n is = ap (λ (z : Cell O R). z.life) (at_unnamed F declared s r.sound.cells.locks c from onto to entry possible.may named n is.unclosed is.unbegun)
 
   -- the hand leaves the parts of the row, and begins the next with what its layout imports
   pub record Hands : Type 0 where
@@ -178,13 +178,13 @@ module _ {S L P : Type 0} (F : Layouts S L P) (laws : AreLaws F) (declared : Lis
 
   module _ (hands : Hands) where
     module _ (n : ℕ) (lt : n < length s.turns.cells) (declaration : L) (declares : slice_get declared (object_of n) ≡ Some declaration)
-        (y : Chain L P) (row' : Row L P) (is : AreRowsOf F declaration t (object_of n) y) (at_life : row_in y (cell t n).life ≡ Some row')
+        (y : Chain L P O R) (row' : Row L P O R) (is : AreRowsOf F declaration t (object_of n) y) (at_life : row_in y (cell t n).life ≡ Some row')
         (freed : (object s (object_of n)).freed ≤ (cell t n).life) where
       abbrev Due : Type 0
       Due = HasDue (F.ways_of row'.layout) F.procs (place_of n) (part_after n) (part_of F row' (place_of n))
 
       -- a cell that is not named, where its row was there
-      same_part : (z : Chain L P) → AreRowsOf F declaration s (object_of n) z → row_in z (cell s n).life ≡ Some row' → IsElse n → Due
+      same_part : (z : Chain L P O R) → AreRowsOf F declaration s (object_of n) z → row_in z (cell s n).life ≡ Some row' → IsElse n → Due
       same_part z was here' else =
           let life = life_else n else in
           subst (λ part. HasDue (F.ways_of row'.layout) F.procs (place_of n) part (part_of F row' (place_of n))) (sym (part_else n else))
@@ -235,7 +235,7 @@ module _ {S L P : Type 0} (F : Layouts S L P) (laws : AreLaws F) (declared : Lis
             let l = long in
             let row_is : x.row ≡ row' = same_Some x.row row' (sym (row_last x y entry i follows.past (omega (arith, l)) (λ e. omega (arith, e, l))) ∙ ap (row_in y) (sym life) ∙ at_life) in
             let part : part_after n ≡ fresh (cell_of o i p) = part_closed n (ap (names from) here' ∙ in_from p place) ∙ ap fresh here' in
-            subst (λ (q : Row L P). HasDue (F.ways_of q.layout) F.procs p (part_after n) (part_of F q p)) row_is
+            subst (λ (q : Row L P O R). HasDue (F.ways_of q.layout) F.procs p (part_after n) (part_of F q p)) row_is
             (subst (λ part. HasDue (F.ways_of x.row.layout) F.procs p part (part_of F x.row p)) (sym part) (hands.closes p place))
 
         -- a cell of the next row
@@ -247,18 +247,18 @@ module _ {S L P : Type 0} (F : Layouts S L P) (laws : AreLaws F) (declared : Lis
             let part : part_after n ≡ part_of F y.row p =
             part_begun n (ap (names from) here' ∙ not_from p place) (ap (names onto) here' ∙ in_onto p place) ∙ ap fresh here' ∙ hands.begins p place
             ∙ ap (λ parts. part_at parts p) (sym follows.parts) in
-            subst (λ (q : Row L P). HasDue (F.ways_of q.layout) F.procs p (part_after n) (part_of F q p)) row_is
+            subst (λ (q : Row L P O R). HasDue (F.ways_of q.layout) F.procs p (part_after n) (part_of F q p)) row_is
             (subst (λ own. HasDue (F.ways_of y.row.layout) F.procs p own (part_of F y.row p)) (sym part) (due_self (F.ways_of y.row.layout) F.procs p (part_of F y.row p)))
 
         -- a cell beyond the processors has none
-        none_due : procs ≤ place_of n → i < (cell s n).life → (z : Chain L P) → length (parts_of F z.row) ≤ F.procs → z.row ≡ row' → IsElse n → Due
+        none_due : procs ≤ place_of n → i < (cell s n).life → (z : Chain L P O R) → length (parts_of F z.row) ≤ F.procs → z.row ≡ row' → IsElse n → Due
         none_due beyond ahead z sized row_is else =
             let p = place_of n in
             let same' = same_procs in
             let hands' : many_hands s (object_of n) ≡ i = ap (many_hands s) same ∙ hands_are in
             let part : part_after n ≡ None = part_else n else ∙ (r.parts n lt).before (subst (λ h. h < (cell s n).life) (sym hands') ahead) in
             let due : part_of F z.row p ≡ None = no_part (parts_of F z.row) p (omega (arith, sized, beyond, same')) in
-            subst (λ (q : Row L P). HasDue (F.ways_of q.layout) F.procs p (part_after n) (part_of F q p)) row_is
+            subst (λ (q : Row L P O R). HasDue (F.ways_of q.layout) F.procs p (part_after n) (part_of F q p)) row_is
             (subst (λ (k : Option P × Option P). HasDue (F.ways_of z.row.layout) F.procs p k.0 k.1) (λ j. (sym part j, sym due j)) tt)
 
         beyond_due : procs ≤ place_of n → Due

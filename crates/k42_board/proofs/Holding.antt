@@ -42,8 +42,8 @@ busy_test grace busy = refl
 pub ltb_same : (p : ℕ) → ltb p p ≡ false
 ltb_same p = le-ltb p p (le_refl p)
 
-module _ {S L P : Type 0} (F : Layouts S L P) (declared : List L)
-    (table : State (Slot P) (View P)) (r : Rule F declared table) (id : ℕ) (v : PassView P)
+module _ {S L P O R : Type 0} (F : Layouts S L P O R) (declared : List L)
+    (table : State (Slot P O R) (View P O R)) (r : Rule F declared table) (id : ℕ) (v : PassView P O R)
     (at : get_elem? table.views id ≡ some (Crew (v ∷ []))) where
   abbrev pub s : Generations
   s = r.state.phases.turns

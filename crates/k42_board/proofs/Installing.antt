@@ -63,8 +63,8 @@ empty_shown layout p i found e is shown =
     let blank = is.empty tag in let a = blank.0 in let b = blank.1 in
     eq-eqb found (local_value (empty_entry i)) (omega (arith, shown, tag, row, a, b)))
 
-module _ {S L P : Type 0} (F : Layouts S L P) (laws : AreLaws F) (declared : List L)
-    (table : State (Slot P) (View P)) (r : Rule F declared table) (id : ℕ) (v : PassView P)
+module _ {S L P O R : Type 0} (F : Layouts S L P O R) (laws : AreLaws F) (declared : List L)
+    (table : State (Slot P O R) (View P O R)) (r : Rule F declared table) (id : ℕ) (v : PassView P O R)
     (at : get_elem? table.views id ≡ some (Crew (v ∷ []))) (o cell : ℕ) (may : MayInstall (length declared) o cell v) where
   abbrev s : Phases
   s = r.state.phases
@@ -121,7 +121,7 @@ module _ {S L P : Type 0} (F : Layouts S L P) (laws : AreLaws F) (declared : Lis
   entry_is = entry_at_home F laws declared table r id v at o there
 
   -- the event, where the entry is empty and where it is not
-  abbrev inst : Bool → Visitor → ℕ → ℕ → Joined L
+  abbrev inst : Bool → Visitor → ℕ → ℕ → Joined L O R
   inst b y q m = record r.state {
     phases =
         cond b (put_object (put_visitor s c (at_place y (Direct o (row_of y.place)))) o (put_entry k q (direct_entry m q (row_of y.place)))) (put_visitor s c (at_place y Out));
@@ -147,7 +147,7 @@ module _ {S L P : Type 0} (F : Layouts S L P) (laws : AreLaws F) (declared : Lis
     may = record {
       objects = there;
       core = rw (place_is F laws declared table r id v at) may.missed;
-      beside = ap (λ (z : turns.Caller). holds_none z.held) knows.cells.taker ∙ may.free;
+      beside = ap (λ (z : turns.Caller O R). holds_none z.held) knows.cells.taker ∙ may.free;
     };
   }
 
@@ -186,27 +186,27 @@ module _ {S L P : Type 0} (F : Layouts S L P) (laws : AreLaws F) (declared : Lis
   pub installed : Goal (eqb found (empty_before v))
   installed = by_test (eqb found (empty_before v)) effect_is
 
-install_goes : {S L P : Type 0} (F : Layouts S L P) → AreLaws F → (declared : List L) (id o cell : ℕ) (v : PassView P) → MayInstall (length declared) o cell v
+install_goes : {S L P O R : Type 0} (F : Layouts S L P O R) → AreLaws F → (declared : List L) (id o cell : ℕ) (v : PassView P O R) → MayInstall (length declared) o cell v
     → Moves F declared (AtPhases (Install v.number o)) (local_word v.turn.proc o) (installs v) (installed_view o) id v
 install_goes F laws declared id o cell v may = record { from = λ table r at. installed F laws declared table r id v at o cell may }
 
-pub install_moves : {S L P : Type 0} (F : Layouts S L P) → AreLaws F → (declared : List L) (id o cell : ℕ) (v : PassView P) → MayInstall (length declared) o cell v
+pub install_moves : {S L P O R : Type 0} (F : Layouts S L P O R) → AreLaws F → (declared : List L) (id o cell : ℕ) (v : PassView P O R) → MayInstall (length declared) o cell v
     → Moves F declared (AtPhases (Install v.number o)) (local_word v.turn.proc o) (installs v)
     (λ found x. took steps.Install (local_word x.turn.proc o) found (installed_view o found x)) id v
 install_moves F laws declared id o cell v may = record { from = (logged_moves steps.Install (λ n. n) (λ found q before is. is) (install_goes F laws declared id o cell v may)).from }
 
 -- as the play tells it, of an exchange of these words at the word that the step names
-module _ {S L P : Type 0} (F : Layouts S L P) (laws : AreLaws F) (declared : List L) (id o cell : ℕ) (few : o < 16)
-    (me : Seated P) (is : IsSeatOf me (pass_in me.0)) (may : MayInstall (length declared) o cell (pass_in me.0))
+module _ {S L P O R : Type 0} (F : Layouts S L P O R) (laws : AreLaws F) (declared : List L) (id o cell : ℕ) (few : o < 16)
+    (me : Seated P O R) (is : IsSeatOf me (pass_in me.0)) (may : MayInstall (length declared) o cell (pass_in me.0))
     (word home : ℕ) (at : word ≡ local_word home o) (same : (pass_in me.0).turn.proc ≡ home)
     (old new : ℕ) (words : (old ≡ empty_before (pass_in me.0)) × (new ≡ direct_after (pass_in me.0))) where
   install_there : word ≡ local_word (pass_in me.0).turn.proc o
   install_there = at ∙ ap (λ p. local_word p o) (sym same)
 
-  abbrev install_row : ℕ → PassView P → PassView P
+  abbrev install_row : ℕ → PassView P O R → PassView P O R
   install_row found x = took steps.Install (local_word x.turn.proc o) found (installed_view o found x)
 
-  abbrev install_play : ℕ → PassView P → PassView P
+  abbrev install_play : ℕ → PassView P O R → PassView P O R
   install_play found x = took steps.Install word found (installed_view (entry_object word) found x)
 
   install_same : (found : ℕ) → install_row found (pass_in me.0) ≡ install_play found (pass_in me.0)
@@ -214,12 +214,12 @@ module _ {S L P : Type 0} (F : Layouts S L P) (laws : AreLaws F) (declared : Lis
       ap (λ (z : ℕ × ℕ). took steps.Install z.0 found (installed_view z.1 found (pass_in me.0)))
       (λ j. (sym install_there j, sym (object_is home o word few at) j))
 
-  pub install_allowed : {callers : ℕ} (slots : ℕ) (step : Step (Slot P))
+  pub install_allowed : {callers : ℕ} (slots : ℕ) (step : Step (Slot P O R))
       → Allows (Ruled F declared callers) slots id me word (λ n. either (eqb n old) new n) (Tells install_play step me)
   install_allowed {callers} slots step =
       subst (λ (z : ℕ × ℕ). Allows (Ruled F declared callers) slots id me word (λ n. either (eqb n z.0) z.1 n) (Tells install_play step me))
       (λ j. (sym words.0 j, sym words.1 j))
       (retold_allowed install_row install_play install_same (install_moves F laws declared id o cell (pass_in me.0) may) me is word install_there slots step)
 
-  pub install_told : (step : Step (Slot P)) (found : ℕ) (after : Seated P) → Tells install_play step me found after → Tells install_row step me found after
+  pub install_told : (step : Step (Slot P O R)) (found : ℕ) (after : Seated P O R) → Tells install_play step me found after → Tells install_row step me found after
   install_told step found after told = retold install_row install_play install_same me after is step found told

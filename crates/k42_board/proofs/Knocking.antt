@@ -43,8 +43,8 @@ use Rattle.k42_board.proofs.Moves.{Moves, Finds}
 use Rattle.k42_board.proofs.OnePass.{with_pass, known}
 use Rattle.k42_board.proofs.Retold.{retold, retold_allowed, retold_allowed_with}
 
-module _ {S L P : Type 0} (F : Layouts S L P) (laws : AreLaws F) (declared : List L)
-    (table : State (Slot P) (View P)) (r : Rule F declared table) (id : ℕ) (v : PassView P)
+module _ {S L P O R : Type 0} (F : Layouts S L P O R) (laws : AreLaws F) (declared : List L)
+    (table : State (Slot P O R) (View P O R)) (r : Rule F declared table) (id : ℕ) (v : PassView P O R)
     (at : get_elem? table.views id ≡ some (Crew (v ∷ []))) where
   abbrev s : Phases
   s = r.state.phases
@@ -97,7 +97,7 @@ module _ {S L P : Type 0} (F : Layouts S L P) (laws : AreLaws F) (declared : Lis
     is_read : IsRead k found
     is_read = object_is_read F laws declared table r id v at o o_there
 
-    abbrev knocks : Bool → Visitor → ℕ → Joined L
+    abbrev knocks : Bool → Visitor → ℕ → Joined L O R
     knocks b y n = record r.state { phases = put_object (put_visitor s c (knocked y o n b)) o (counted_in k); kept = r.state.kept }
 
     effect_is : effect r.state (AtPhases (Knock c o)) ≡ knocks (has_bit found 25) v.visitor (incarnation_in found)
@@ -165,26 +165,26 @@ module _ {S L P : Type 0} (F : Layouts S L P) (laws : AreLaws F) (declared : Lis
           may = record {
             objects = tt;
             core = rw (place_is F laws declared table r id v at) may.counted;
-            beside = ap (λ (z : turns.Caller). holds_none z.held) knows.cells.taker ∙ may.free;
+            beside = ap (λ (z : turns.Caller O R). holds_none z.held) knows.cells.taker ∙ may.free;
           };
         })
         (ap (λ (y : Visitor). visited r.state (set s.objects (object_of y.place) (counted_out (object_at s (object_of y.place)))) (set s.callers c (at_place y Out)) r.state.kept)
         (sym knows.phases.visitor))
         (λ l q i told inside. absurd inside) (λ served none. absurd (cc))
 
-knock_goes : {S L P : Type 0} (F : Layouts S L P) → AreLaws F → (declared : List L) (id o : ℕ) (v : PassView P) → MayKnock (length declared) o v
+knock_goes : {S L P O R : Type 0} (F : Layouts S L P O R) → AreLaws F → (declared : List L) (id o : ℕ) (v : PassView P O R) → MayKnock (length declared) o v
     → Moves F declared (AtPhases (Knock v.number o)) (object_word o) (λ word. (word + 1) % 2 ^ 64) (knocked_view o) id v
 knock_goes F laws declared id o v may = record { from = λ table r at. knocked_at F laws declared table r id v at o may }
 
-pub knock_moves : {S L P : Type 0} (F : Layouts S L P) → AreLaws F → (declared : List L) (id o : ℕ) (v : PassView P) → MayKnock (length declared) o v
+pub knock_moves : {S L P O R : Type 0} (F : Layouts S L P O R) → AreLaws F → (declared : List L) (id o : ℕ) (v : PassView P O R) → MayKnock (length declared) o v
     → Moves F declared (AtPhases (Knock v.number o)) (object_word o) (λ word. (word + 1) % 2 ^ 64) (λ found x. took steps.Knock (object_word o) found (knocked_view o found x)) id v
 knock_moves F laws declared id o v may = logged_moves steps.Knock (λ n. n) (λ found q before is. is) (knock_goes F laws declared id o v may)
 
-step_out_goes : {S L P : Type 0} (F : Layouts S L P) → AreLaws F → (declared : List L) (id : ℕ) (v : PassView P) → MayStepOut v
+step_out_goes : {S L P O R : Type 0} (F : Layouts S L P O R) → AreLaws F → (declared : List L) (id : ℕ) (v : PassView P O R) → MayStepOut v
     → Moves F declared (AtPhases (StepOut v.number)) (object_word (object_of v.visitor.place)) (λ word. (word + (2 ^ 64 - 1)) % 2 ^ 64) (λ found. ended_view) id v
 step_out_goes F laws declared id v may = record { from = λ table r at. steps_out F laws declared table r id v at may }
 
-pub step_out_moves : {S L P : Type 0} (F : Layouts S L P) → AreLaws F → (declared : List L) (id : ℕ) (v : PassView P) → MayStepOut v
+pub step_out_moves : {S L P O R : Type 0} (F : Layouts S L P O R) → AreLaws F → (declared : List L) (id : ℕ) (v : PassView P O R) → MayStepOut v
     → Moves F declared (AtPhases (StepOut v.number)) (object_word (object_of v.visitor.place)) (λ word. (word + (2 ^ 64 - 1)) % 2 ^ 64)
     (λ found x. took steps.StepOut (object_word (object_of x.visitor.place)) found (ended_view x)) id v
 step_out_moves F laws declared id v may = record { from = (logged_moves steps.StepOut (λ n. n) (λ found q before is. is) (step_out_goes F laws declared id v may)).from }
@@ -194,49 +194,49 @@ pub word_object_is : (o word : ℕ) → word ≡ object_word o → word_object w
 word_object_is o word is = omega (arith, is)
 
 -- what is found of an object
-pub object_finds : {S L P : Type 0} (F : Layouts S L P) → AreLaws F → (declared : List L) (id o : ℕ) (v : PassView P) → o < length declared
+pub object_finds : {S L P O R : Type 0} (F : Layouts S L P O R) → AreLaws F → (declared : List L) (id o : ℕ) (v : PassView P O R) → o < length declared
     → Finds F declared (object_word o) ObjectFound id v
 object_finds F laws declared id o v lt table r at =
     object_seen F laws declared table r id v at o (let many = r.sound.cells.rows.objects in omega (arith, many, lt))
 
 -- as the plays tell them, at the words that the steps name
 
-module _ {S L P : Type 0} (F : Layouts S L P) (laws : AreLaws F) (declared : List L) (id o : ℕ)
-    (me : Seated P) (is : IsSeatOf me (pass_in me.0)) (may : MayKnock (length declared) o (pass_in me.0)) (word : ℕ) (there : word ≡ object_word o) where
-  abbrev knock_at : ℕ × ℕ → ℕ → PassView P → PassView P
+module _ {S L P O R : Type 0} (F : Layouts S L P O R) (laws : AreLaws F) (declared : List L) (id o : ℕ)
+    (me : Seated P O R) (is : IsSeatOf me (pass_in me.0)) (may : MayKnock (length declared) o (pass_in me.0)) (word : ℕ) (there : word ≡ object_word o) where
+  abbrev knock_at : ℕ × ℕ → ℕ → PassView P O R → PassView P O R
   knock_at at found x = took steps.Knock at.0 found (knocked_view at.1 found x)
 
   knock_same : (found : ℕ) → knock_at (object_word o, o) found (pass_in me.0) ≡ knock_at (word, word_object word) found (pass_in me.0)
   knock_same found = ap (λ at. knock_at at found (pass_in me.0)) (λ j. (sym there j, sym (word_object_is o word there) j))
 
-  pub knock_allowed : {callers : ℕ} (slots : ℕ) (step : Step (Slot P))
+  pub knock_allowed : {callers : ℕ} (slots : ℕ) (step : Step (Slot P O R))
       → Allows (Ruled F declared callers) slots id me word (λ n. (n + 1) % 2 ^ 64) (TellsWith (knock_at (word, word_object word)) ObjectFound step me)
   knock_allowed slots step =
       retold_allowed_with (knock_at (object_word o, o)) (knock_at (word, word_object word)) knock_same (knock_moves F laws declared id o (pass_in me.0) may) ObjectFound
       (object_finds F laws declared id o (pass_in me.0) may.there) me is word there slots step
 
-  pub knock_told : (step : Step (Slot P)) (found : ℕ) (after : Seated P) → TellsWith (knock_at (word, word_object word)) ObjectFound step me found after
+  pub knock_told : (step : Step (Slot P O R)) (found : ℕ) (after : Seated P O R) → TellsWith (knock_at (word, word_object word)) ObjectFound step me found after
       → Tells (knock_at (object_word o, o)) step me found after
   knock_told step found after told = retold (knock_at (object_word o, o)) (knock_at (word, word_object word)) knock_same me after is step found told.0
 
-module _ {S L P : Type 0} (F : Layouts S L P) (laws : AreLaws F) (declared : List L) (id : ℕ)
-    (me : Seated P) (is : IsSeatOf me (pass_in me.0)) (may : MayStepOut (pass_in me.0))
+module _ {S L P O R : Type 0} (F : Layouts S L P O R) (laws : AreLaws F) (declared : List L) (id : ℕ)
+    (me : Seated P O R) (is : IsSeatOf me (pass_in me.0)) (may : MayStepOut (pass_in me.0))
     (word o : ℕ) (at : word ≡ object_word o) (same : object_of (pass_in me.0).visitor.place ≡ o) where
   step_out_there : word ≡ object_word (object_of (pass_in me.0).visitor.place)
   step_out_there = at ∙ ap object_word (sym same)
 
-  abbrev step_out_row : ℕ → PassView P → PassView P
+  abbrev step_out_row : ℕ → PassView P O R → PassView P O R
   step_out_row found x = took steps.StepOut (object_word (object_of x.visitor.place)) found (ended_view x)
 
-  abbrev step_out_play : ℕ → PassView P → PassView P
+  abbrev step_out_play : ℕ → PassView P O R → PassView P O R
   step_out_play found x = took steps.StepOut word found (ended_view x)
 
   step_out_same : (found : ℕ) → step_out_row found (pass_in me.0) ≡ step_out_play found (pass_in me.0)
   step_out_same found = ap (λ i. took steps.StepOut i found (ended_view (pass_in me.0))) (sym step_out_there)
 
-  pub step_out_allowed : {callers : ℕ} (slots : ℕ) (step : Step (Slot P))
+  pub step_out_allowed : {callers : ℕ} (slots : ℕ) (step : Step (Slot P O R))
       → Allows (Ruled F declared callers) slots id me word (λ n. (n + (2 ^ 64 - 1)) % 2 ^ 64) (Tells step_out_play step me)
   step_out_allowed slots step = retold_allowed step_out_row step_out_play step_out_same (step_out_moves F laws declared id (pass_in me.0) may) me is word step_out_there slots step
 
-  pub step_out_told : (step : Step (Slot P)) (found : ℕ) (after : Seated P) → Tells step_out_play step me found after → Tells step_out_row step me found after
+  pub step_out_told : (step : Step (Slot P O R)) (found : ℕ) (after : Seated P O R) → Tells step_out_play step me found after → Tells step_out_row step me found after
   step_out_told step found after told = retold step_out_row step_out_play step_out_same me after is step found told

@@ -12,27 +12,27 @@ or_true true b e = refl
 or_true false b e = e
 
 -- where no clock falls, what was known is known
-pub known_rises : (stamp : ℕ) (xs ys : List Caller) → length xs ≡ length ys
+pub known_rises : {O R : Type 0} (stamp : ℕ) (xs ys : List (Caller O R)) → length xs ≡ length ys
     → ((d : ℕ) → (get_or xs d fresh_caller).clock ≤ (get_or ys d fresh_caller).clock)
-    → list_any (λ (x : Caller). nat_le stamp x.clock) xs ≡ true → list_any (λ (x : Caller). nat_le stamp x.clock) ys ≡ true
+    → list_any (λ (x : Caller O R). nat_le stamp x.clock) xs ≡ true → list_any (λ (x : Caller O R). nat_le stamp x.clock) ys ≡ true
 known_rises stamp [] ys many rises known = absurd (cc)
 known_rises stamp (x ∷ xs) [] many rises known = absurd (omega (arith, many))
-known_rises stamp (x ∷ xs) (y ∷ ys) many rises known =
+known_rises {O} {R} stamp (x ∷ xs) (y ∷ ys) many rises known =
     go (nat_le stamp x.clock) refl (λ further. known_rises stamp xs ys (omega (arith, many)) (λ d. rises (suc d)) further) where
       first : nat_le stamp x.clock ≡ true → nat_le stamp y.clock ≡ true
       first e = grind (arith, nat_tests, e, rises 0)
 
       go : (b : Bool) → nat_le stamp x.clock ≡ b
-          → (list_any (λ (z : Caller). nat_le stamp z.clock) xs ≡ true → list_any (λ (z : Caller). nat_le stamp z.clock) ys ≡ true)
-          → (nat_le stamp y.clock || list_any (λ (z : Caller). nat_le stamp z.clock) ys) ≡ true
-      go true e behind = ap (λ b. b || list_any (λ (z : Caller). nat_le stamp z.clock) ys) (first e)
+          → (list_any (λ (z : Caller O R). nat_le stamp z.clock) xs ≡ true → list_any (λ (z : Caller O R). nat_le stamp z.clock) ys ≡ true)
+          → (nat_le stamp y.clock || list_any (λ (z : Caller O R). nat_le stamp z.clock) ys) ≡ true
+      go true e behind = ap (λ b. b || list_any (λ (z : Caller O R). nat_le stamp z.clock) ys) (first e)
       go false e behind =
-          or_true (nat_le stamp y.clock) (list_any (λ (z : Caller). nat_le stamp z.clock) ys)
-          (behind (ap (λ b. b || list_any (λ (z : Caller). nat_le stamp z.clock) xs) (sym e) ∙ known))
+          or_true (nat_le stamp y.clock) (list_any (λ (z : Caller O R). nat_le stamp z.clock) ys)
+          (behind (ap (λ b. b || list_any (λ (z : Caller O R). nat_le stamp z.clock) xs) (sym e) ∙ known))
 
 -- so where one caller changes, whose clock does not fall
-pub known_after : (s : Turns) (c : ℕ) (x : Caller) (stamp : ℕ) → (caller_at s c).clock ≤ x.clock
-    → is_known s stamp ≡ true → list_any (λ (y : Caller). nat_le stamp y.clock) (set s.callers c x) ≡ true
-known_after s c x stamp up known =
+pub known_after : {O R : Type 0} (s : Turns O R) (c : ℕ) (x : Caller O R) (stamp : ℕ) → (caller_at s c).clock ≤ x.clock
+    → is_known s stamp ≡ true → list_any (λ (y : Caller O R). nat_le stamp y.clock) (set s.callers c x) ≡ true
+known_after {O} {R} s c x stamp up known =
     known_rises stamp s.callers (set s.callers c x) (sym (length-set s.callers c x))
-    (λ d. get_or-set_related (λ (y z : Caller). y.clock ≤ z.clock) (λ y. omega arith) s.callers c d x fresh_caller up) known
+    (λ d. get_or-set_related (λ (y z : Caller O R). y.clock ≤ z.clock) (λ y. omega arith) s.callers c d x fresh_caller up) known

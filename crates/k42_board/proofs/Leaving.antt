@@ -87,8 +87,8 @@ same_entered : (k : GenProc) (even : Bool) → (exit_counted k even).entered ≡
 same_entered k true = refl
 same_entered k false = refl
 
-module _ {S L P : Type 0} (F : Layouts S L P) (laws : AreLaws F) (declared : List L)
-    (table : State (Slot P) (View P)) (r : Rule F declared table) (id : ℕ) (v : PassView P)
+module _ {S L P O R : Type 0} (F : Layouts S L P O R) (laws : AreLaws F) (declared : List L)
+    (table : State (Slot P O R) (View P O R)) (r : Rule F declared table) (id : ℕ) (v : PassView P O R)
     (at : get_elem? table.views id ≡ some (Crew (v ∷ []))) (a : ℕ) (may : MayLeave a v) where
   abbrev s : Generations
   s = r.state.phases.turns
@@ -257,7 +257,7 @@ parity_is a = by_parity (eqb (a % 2) 0) refl where
   by_parity true e = eqb-true (a % 2) 0 e
   by_parity false e = let not = eqb-false (a % 2) 0 e in omega (arith, not)
 
-leave_goes : {S L P : Type 0} (F : Layouts S L P) → AreLaws F → (declared : List L) (id i generation : ℕ) (v : PassView P) → MayLeave generation v
+leave_goes : {S L P O R : Type 0} (F : Layouts S L P O R) → AreLaws F → (declared : List L) (id i generation : ℕ) (v : PassView P O R) → MayLeave generation v
     → i ≡ exits_word v.turn.proc (generation % 2) → Moves F declared (AtPhases (Turn (Leave v.number))) i (λ n. (n + 1) % 2 ^ 64) (λ found x. left_view x) id v
 leave_goes {S} {L} {P} F laws declared id i generation v may same = record {
   from = λ table r at.
@@ -268,7 +268,7 @@ leave_goes {S} {L} {P} F laws declared id i generation v may same = record {
       (leaves F laws declared table r id v at generation may);
 }
 
-pub leave_moves : {S L P : Type 0} (F : Layouts S L P) → AreLaws F → (declared : List L) (id i generation : ℕ) (v : PassView P) → MayLeave generation v
+pub leave_moves : {S L P O R : Type 0} (F : Layouts S L P O R) → AreLaws F → (declared : List L) (id i generation : ℕ) (v : PassView P O R) → MayLeave generation v
     → i ≡ exits_word v.turn.proc (generation % 2)
     → Moves F declared (AtPhases (Turn (Leave v.number))) i (λ n. (n + 1) % 2 ^ 64) (λ found v. took steps.Leave i found (left_view v)) id v
 leave_moves F laws declared id i generation v may same =

@@ -24,14 +24,14 @@ use Rattle.k42_board.proofs.Moves.{Moves, Stays}
 use Rattle.k42_board.proofs.OnePass.{with_pass, apart_alone}
 
 -- the pass with another log
-abbrev pub relogged : {P : Type 0} → PassView P → List Taken → PassView P
+abbrev pub relogged : {P O R : Type 0} → PassView P O R → List Taken → PassView P O R
 relogged v log = record v { log = log }
 
 -- of which all objects that it sweeps are freed as noted
-abbrev pub AreSweptAs : {L P : Type 0} → Joined L → List Taken → PassView P → Type 0
+abbrev pub AreSweptAs : {L P O R : Type 0} → Joined L O R → List Taken → PassView P O R → Type 0
 AreSweptAs s log v = (o n : ℕ) → has_swept log o ≡ true → note_at v.visitor.noted o ≡ Some n → n ≤ (object_at s.phases o).freed
 
-pub known_relogged : {L P : Type 0} (tag_of : L → ℕ) (s : Joined L) (beside : Beside P) (id : ℕ) (v : PassView P) (log : List Taken)
+pub known_relogged : {L P O R : Type 0} (tag_of : L → ℕ) (s : Joined L O R) (beside : Beside P) (id : ℕ) (v : PassView P O R) (log : List Taken)
     → AreSweptAs s log v → KnowsPass tag_of s beside id v → KnowsPass tag_of s beside id (relogged v log)
 known_relogged tag_of s beside id v log swept k = record {
   there = k.there;
@@ -50,17 +50,17 @@ known_relogged tag_of s beside id v log swept k = record {
 }
 
 -- where the rule stands with this pass in the seat, it stands with another record in it, and the state is the same
-module _ {S L P : Type 0} (F : Layouts S L P) (declared : List L)
-    (table : State (Slot P) (View P)) (words : List ℕ) (homes : List (maybe.Option (Slot P))) (id : ℕ) (w : PassView P)
+module _ {S L P O R : Type 0} (F : Layouts S L P O R) (declared : List L)
+    (table : State (Slot P O R) (View P O R)) (words : List ℕ) (homes : List (maybe.Option (Slot P O R))) (id : ℕ) (w : PassView P O R)
     (there : id < length table.views)
     (r : Rule F declared (with_pass table words homes id w)) (log : List Taken) (swept : AreSweptAs r.state log w) where
-  abbrev again : PassView P
+  abbrev again : PassView P O R
   again = relogged w log
 
   mine : KnowsPass F.tag_of r.state r.beside id again
   mine = known_relogged F.tag_of r.state r.beside id w log swept ((r.seats id (Crew (w ∷ [])) (set_here table.views id (Crew (w ∷ [])) there)).1 0 w refl)
 
-  own : (place : ℕ) (x : PassView P) → slice_get (again ∷ []) place ≡ Some x → KnowsPass F.tag_of r.state r.beside id x
+  own : (place : ℕ) (x : PassView P O R) → slice_get (again ∷ []) place ≡ Some x → KnowsPass F.tag_of r.state r.beside id x
   own zero x e = subst (KnowsPass F.tag_of r.state r.beside id) (same_Some again x e) mine
   own (suc place) x e = absurd (cc)
 
@@ -86,41 +86,41 @@ module _ {S L P : Type 0} (F : Layouts S L P) (declared : List L)
       seats = λ j view e.
           ⊎_elim
           (λ here.
-          subst (λ (z : ℕ × View P). Knows F.tag_of r.state r.beside z.0 z.1) (λ i. (sym here.0 i, here.1 i)) (apart_alone again, own))
+          subst (λ (z : ℕ × View P O R). Knows F.tag_of r.state r.beside z.0 z.1) (λ i. (sym here.0 i, here.1 i)) (apart_alone again, own))
           (λ old. r.seats j view (set_else table.views id j (Crew (w ∷ [])) old.0 ∙ old.1))
           (at_set table.views id j (Crew (again ∷ [])) view e);
     },
     refl,
   )
 
-pub logged : {S L P : Type 0} (F : Layouts S L P) (declared : List L)
-    (table : State (Slot P) (View P)) (words : List ℕ) (homes : List (maybe.Option (Slot P))) (id : ℕ) (w : PassView P) {v : PassView P}
+pub logged : {S L P O R : Type 0} (F : Layouts S L P O R) (declared : List L)
+    (table : State (Slot P O R) (View P O R)) (words : List ℕ) (homes : List (maybe.Option (Slot P O R))) (id : ℕ) (w : PassView P O R) {v : PassView P O R}
     → get_elem? table.views id ≡ some (Crew (v ∷ [])) → (r : Rule F declared (with_pass table words homes id w)) (log : List Taken) → AreSweptAs r.state log w
     → (after : Rule F declared (with_pass table words homes id (relogged w log))) × (after.state ≡ r.state)
 logged F declared table words homes id w {v} at r log swept =
     logged_there F declared table words homes id w (at_within table.views id (Crew (v ∷ [])) at) r log swept
 
 -- what a pass with this view has swept
-swept_here : {S L P : Type 0} (F : Layouts S L P) (declared : List L)
-    (table : State (Slot P) (View P)) (words : List ℕ) (homes : List (maybe.Option (Slot P))) (id : ℕ) (w : PassView P)
+swept_here : {S L P O R : Type 0} (F : Layouts S L P O R) (declared : List L)
+    (table : State (Slot P O R) (View P O R)) (words : List ℕ) (homes : List (maybe.Option (Slot P O R))) (id : ℕ) (w : PassView P O R)
     → id < length table.views → (r : Rule F declared (with_pass table words homes id w)) → AreSweptAs r.state w.log w
 swept_here F declared table words homes id w there r =
     ((r.seats id (Crew (w ∷ [])) (set_here table.views id (Crew (w ∷ [])) there)).1 0 w refl).phases.rows.swept
 
 -- A step that sweeps no object may be kept.
-module _ {S L P : Type 0} (F : Layouts S L P) (declared : List L) (name : StepName) (word told : ℕ)
+module _ {S L P O R : Type 0} (F : Layouts S L P O R) (declared : List L) (name : StepName) (word told : ℕ)
     (sweeps : (o : ℕ) (before : Bool) → swept_by name word told o before ≡ true → before ≡ true)
-    (table : State (Slot P) (View P)) (id : ℕ) {v : PassView P} (at : get_elem? table.views id ≡ some (Crew (v ∷ [])))
-    (words : List ℕ) (homes : List (maybe.Option (Slot P))) (w : PassView P) (r : Rule F declared (with_pass table words homes id w)) where
+    (table : State (Slot P O R) (View P O R)) (id : ℕ) {v : PassView P O R} (at : get_elem? table.views id ≡ some (Crew (v ∷ [])))
+    (words : List ℕ) (homes : List (maybe.Option (Slot P O R))) (w : PassView P O R) (r : Rule F declared (with_pass table words homes id w)) where
   kept : (after : Rule F declared (with_pass table words homes id (took name word told w))) × (after.state ≡ r.state)
   kept =
       logged F declared table words homes id w at r _
       (λ o n is. swept_here F declared table words homes id w (at_within table.views id (Crew (v ∷ [])) at) r o n (sweeps o (has_swept w.log o) is))
 
-module _ {S L P : Type 0} {F : Layouts S L P} {declared : List L} {word : ℕ} {new : ℕ → ℕ}
-    {changed : ℕ → PassView P → PassView P} {id : ℕ} {v : PassView P} (name : StepName) (told : ℕ → ℕ)
+module _ {S L P O R : Type 0} {F : Layouts S L P O R} {declared : List L} {word : ℕ} {new : ℕ → ℕ}
+    {changed : ℕ → PassView P O R → PassView P O R} {id : ℕ} {v : PassView P O R} (name : StepName) (told : ℕ → ℕ)
     (sweeps : (found o : ℕ) (before : Bool) → swept_by name word (told found) o before ≡ true → before ≡ true) where
-  pub logged_moves : {event : Event L} → Moves F declared event word new changed id v
+  pub logged_moves : {event : Event L O R} → Moves F declared event word new changed id v
       → Moves F declared event word new (λ found x. took name word (told found) (changed found x)) id v
   logged_moves moves = record {
     from = λ table r at.
@@ -141,7 +141,7 @@ module _ {S L P : Type 0} {F : Layouts S L P} {declared : List L} {word : ℕ} {
 
   -- the same where the word has another name
   module _ {i : ℕ} (same : i ≡ word) where
-    pub logged_moves_at : {event : Event L} → Moves F declared event word new changed id v
+    pub logged_moves_at : {event : Event L O R} → Moves F declared event word new changed id v
         → Moves F declared event i new (λ found x. took name i (told found) (changed found x)) id v
     logged_moves_at {event} moves =
         subst (λ (j : ℕ). Moves F declared event j new (λ found x. took name j (told found) (changed found x)) id v) (sym same) (logged_moves moves)

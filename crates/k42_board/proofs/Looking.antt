@@ -71,8 +71,8 @@ served_told tag o i layout served = by_tests (eqb tag 0) (eqb tag 1) served wher
   by_tests false false served none = absurd (cc)
 
 -- a pass that goes on as it reads a word
-module _ {S L P : Type 0} (F : Layouts S L P) (laws : AreLaws F) (declared : List L)
-    (table : State (Slot P) (View P)) (r : Rule F declared table) (id : ℕ) (v : PassView P)
+module _ {S L P O R : Type 0} (F : Layouts S L P O R) (laws : AreLaws F) (declared : List L)
+    (table : State (Slot P O R) (View P O R)) (r : Rule F declared table) (id : ℕ) (v : PassView P O R)
     (at : get_elem? table.views id ≡ some (Crew (v ∷ [])))
     (e : Event) (place : Place) (read : List (ℕ × ℕ)) (layout : Option ℕ) where
   abbrev objects : List Object
@@ -81,7 +81,7 @@ module _ {S L P : Type 0} (F : Layouts S L P) (laws : AreLaws F) (declared : Lis
   abbrev pub gone : Visitor
   gone = record v.visitor { place = place; read = read }
 
-  abbrev pub after_reading : Joined L
+  abbrev pub after_reading : Joined L O R
   after_reading = visited r.state objects (set r.state.phases.callers v.number gone) r.state.kept
 
   same_rows : AreSameRows r.state objects (set r.state.phases.callers v.number gone) r.state.kept
@@ -108,8 +108,8 @@ module _ {S L P : Type 0} (F : Layouts S L P) (laws : AreLaws F) (declared : Lis
       })
       (goes F laws declared table r id v at objects place read layout same_rows (record { layout_is = told; learned = learned })))
 
-module _ {S L P : Type 0} (F : Layouts S L P) (laws : AreLaws F) (declared : List L)
-    (table : State (Slot P) (View P)) (r : Rule F declared table) (id : ℕ) (v : PassView P)
+module _ {S L P O R : Type 0} (F : Layouts S L P O R) (laws : AreLaws F) (declared : List L)
+    (table : State (Slot P O R) (View P O R)) (r : Rule F declared table) (id : ℕ) (v : PassView P O R)
     (at : get_elem? table.views id ≡ some (Crew (v ∷ []))) where
   abbrev s : Phases
   s = r.state.phases
@@ -188,7 +188,7 @@ module _ {S L P : Type 0} (F : Layouts S L P) (laws : AreLaws F) (declared : Lis
   -- the end of a call
   module _ (may : MayEndCall v) where
     pub holds_no_cell : holds_none (held r.state v.number) ≡ true
-    holds_no_cell = ap (λ (z : turns.Caller). holds_none z.held) knows.cells.taker ∙ may.free
+    holds_no_cell = ap (λ (z : turns.Caller O R). holds_none z.held) knows.cells.taker ∙ may.free
 
     pub ends : (i : ℕ)
         → Steps F declared r.state (AtPhases (EndCall v.number)) (with_pass table (set table.words i (get_or table.words i 0)) table.homes id (ended_view v))
@@ -269,40 +269,40 @@ module _ {S L P : Type 0} (F : Layouts S L P) (laws : AreLaws F) (declared : Lis
 
 -- as moves of the pass
 
-root_goes : {S L P : Type 0} (F : Layouts S L P) → AreLaws F → (declared : List L) (id o : ℕ) (v : PassView P) → MayLoadRoot (length declared) o v
+root_goes : {S L P O R : Type 0} (F : Layouts S L P O R) → AreLaws F → (declared : List L) (id o : ℕ) (v : PassView P O R) → MayLoadRoot (length declared) o v
     → Moves F declared (AtPhases (RootLoad v.number o)) (object_word o) (λ word. word) rooted_view id v
 root_goes F laws declared id o v may = record { from = λ table r at. roots F laws declared table r id v at o may }
 
-pub root_moves : {S L P : Type 0} (F : Layouts S L P) → AreLaws F → (declared : List L) (id o : ℕ) (v : PassView P) → MayLoadRoot (length declared) o v
+pub root_moves : {S L P O R : Type 0} (F : Layouts S L P O R) → AreLaws F → (declared : List L) (id o : ℕ) (v : PassView P O R) → MayLoadRoot (length declared) o v
     → Moves F declared (AtPhases (RootLoad v.number o)) (object_word o) (λ word. word) (λ found x. took steps.LoadRoot (object_word o) found (rooted_view found x)) id v
 root_moves F laws declared id o v may = logged_moves steps.LoadRoot (λ n. n) (λ found q before is. is) (root_goes F laws declared id o v may)
 
-pub root_finds : {S L P : Type 0} (F : Layouts S L P) → AreLaws F → (declared : List L) (id o : ℕ) (v : PassView P) → MayLoadRoot (length declared) o v
+pub root_finds : {S L P O R : Type 0} (F : Layouts S L P O R) → AreLaws F → (declared : List L) (id o : ℕ) (v : PassView P O R) → MayLoadRoot (length declared) o v
     → Finds F declared (object_word o) RootFound id v
 root_finds F laws declared id o v may table r at = root_seen F laws declared table r id v at o may
 
-end_goes : {S L P : Type 0} (F : Layouts S L P) → AreLaws F → (declared : List L) (id word : ℕ) (v : PassView P) → MayEndCall v
+end_goes : {S L P O R : Type 0} (F : Layouts S L P O R) → AreLaws F → (declared : List L) (id word : ℕ) (v : PassView P O R) → MayEndCall v
     → Moves F declared (AtPhases (EndCall v.number)) word (λ word. word) (λ found. ended_view) id v
 end_goes F laws declared id word v may = record { from = λ table r at. ends F laws declared table r id v at may word }
 
-pub end_moves : {S L P : Type 0} (F : Layouts S L P) → AreLaws F → (declared : List L) (id : ℕ) (v : PassView P) → MayEndCall v
+pub end_moves : {S L P O R : Type 0} (F : Layouts S L P O R) → AreLaws F → (declared : List L) (id : ℕ) (v : PassView P O R) → MayEndCall v
     → Moves F declared (AtPhases (EndCall v.number)) (local_word v.turn.proc (object_of v.visitor.place)) (λ word. word)
     (λ found x. took steps.EndCall (local_word x.turn.proc (object_of x.visitor.place)) found (ended_view x)) id v
 end_moves F laws declared id v may = record {
   from = (logged_moves steps.EndCall (λ n. n) (λ found q before is. is) (end_goes F laws declared id (local_word v.turn.proc (object_of v.visitor.place)) v may)).from;
 }
 
-look_goes : {S L P : Type 0} (F : Layouts S L P) → AreLaws F → (declared : List L) (id o : ℕ) (v : PassView P) → MayLookUp (length declared) o v
+look_goes : {S L P O R : Type 0} (F : Layouts S L P O R) → AreLaws F → (declared : List L) (id o : ℕ) (v : PassView P O R) → MayLookUp (length declared) o v
     → Moves F declared (AtPhases (LookUp v.number o)) (local_word v.turn.proc o) (λ word. word) (looked_up_view o) id v
 look_goes F laws declared id o v may = record { from = λ table r at. looks F laws declared table r id v at o may }
 
-pub look_moves : {S L P : Type 0} (F : Layouts S L P) → AreLaws F → (declared : List L) (id o : ℕ) (v : PassView P) → MayLookUp (length declared) o v
+pub look_moves : {S L P O R : Type 0} (F : Layouts S L P O R) → AreLaws F → (declared : List L) (id o : ℕ) (v : PassView P O R) → MayLookUp (length declared) o v
     → Moves F declared (AtPhases (LookUp v.number o)) (local_word v.turn.proc o) (λ word. word)
     (λ found x. took steps.LookUp (local_word x.turn.proc o) found (looked_up_view o found x)) id v
 look_moves F laws declared id o v may = record { from = (logged_moves steps.LookUp (λ n. n) (λ found q before is. is) (look_goes F laws declared id o v may)).from }
 
 -- what it finds
-pub look_finds : {S L P : Type 0} (F : Layouts S L P) → AreLaws F → (declared : List L) (id o : ℕ) (v : PassView P) → MayLookUp (length declared) o v
+pub look_finds : {S L P O R : Type 0} (F : Layouts S L P O R) → AreLaws F → (declared : List L) (id o : ℕ) (v : PassView P O R) → MayLookUp (length declared) o v
     → Finds F declared (local_word v.turn.proc o) EntryFound id v
 look_finds F laws declared id o v may table r at = entry_seen F laws declared table r id v at o may
 
@@ -312,54 +312,54 @@ object_is p o word few is = omega (arith, few, is)
 
 -- as the plays tell them, at the words that the steps name
 
-module _ {S L P : Type 0} (F : Layouts S L P) (laws : AreLaws F) (declared : List L) (id o : ℕ)
-    (me : Seated P) (is : IsSeatOf me (pass_in me.0)) (may : MayLoadRoot (length declared) o (pass_in me.0)) (word : ℕ) (there : word ≡ object_word o) where
-  abbrev root_at : ℕ → ℕ → PassView P → PassView P
+module _ {S L P O R : Type 0} (F : Layouts S L P O R) (laws : AreLaws F) (declared : List L) (id o : ℕ)
+    (me : Seated P O R) (is : IsSeatOf me (pass_in me.0)) (may : MayLoadRoot (length declared) o (pass_in me.0)) (word : ℕ) (there : word ≡ object_word o) where
+  abbrev root_at : ℕ → ℕ → PassView P O R → PassView P O R
   root_at i found x = took steps.LoadRoot i found (rooted_view found x)
 
   root_same : (found : ℕ) → root_at (object_word o) found (pass_in me.0) ≡ root_at word found (pass_in me.0)
   root_same found = ap (λ i. root_at i found (pass_in me.0)) (sym there)
 
-  pub root_allowed : {callers : ℕ} (slots : ℕ) (step : Step (Slot P)) → Allows (Ruled F declared callers) slots id me word (λ n. n) (TellsWith (root_at word) RootFound step me)
+  pub root_allowed : {callers : ℕ} (slots : ℕ) (step : Step (Slot P O R)) → Allows (Ruled F declared callers) slots id me word (λ n. n) (TellsWith (root_at word) RootFound step me)
   root_allowed slots step =
       retold_allowed_with (root_at (object_word o)) (root_at word) root_same (root_moves F laws declared id o (pass_in me.0) may) RootFound
       (root_finds F laws declared id o (pass_in me.0) may) me is word there slots step
 
-  pub root_told : (step : Step (Slot P)) (found : ℕ) (after : Seated P) → TellsWith (root_at word) RootFound step me found after
+  pub root_told : (step : Step (Slot P O R)) (found : ℕ) (after : Seated P O R) → TellsWith (root_at word) RootFound step me found after
       → Tells (root_at (object_word o)) step me found after
   root_told step found after told = retold (root_at (object_word o)) (root_at word) root_same me after is step found told.0
 
-module _ {S L P : Type 0} (F : Layouts S L P) (laws : AreLaws F) (declared : List L) (id : ℕ)
-    (me : Seated P) (is : IsSeatOf me (pass_in me.0)) (may : MayEndCall (pass_in me.0))
+module _ {S L P O R : Type 0} (F : Layouts S L P O R) (laws : AreLaws F) (declared : List L) (id : ℕ)
+    (me : Seated P O R) (is : IsSeatOf me (pass_in me.0)) (may : MayEndCall (pass_in me.0))
     (word home o : ℕ) (at : word ≡ local_word home o) (same : (pass_in me.0).turn.proc ≡ home) (of : object_of (pass_in me.0).visitor.place ≡ o) where
   end_there : word ≡ local_word (pass_in me.0).turn.proc (object_of (pass_in me.0).visitor.place)
   end_there = at ∙ ap (λ (z : ℕ × ℕ). local_word z.0 z.1) (λ j. (sym same j, sym of j))
 
-  abbrev end_row : ℕ → PassView P → PassView P
+  abbrev end_row : ℕ → PassView P O R → PassView P O R
   end_row found x = took steps.EndCall (local_word x.turn.proc (object_of x.visitor.place)) found (ended_view x)
 
-  abbrev end_play : ℕ → PassView P → PassView P
+  abbrev end_play : ℕ → PassView P O R → PassView P O R
   end_play found x = took steps.EndCall word found (ended_view x)
 
   end_same : (found : ℕ) → end_row found (pass_in me.0) ≡ end_play found (pass_in me.0)
   end_same found = ap (λ i. took steps.EndCall i found (ended_view (pass_in me.0))) (sym end_there)
 
-  pub end_allowed : {callers : ℕ} (slots : ℕ) (step : Step (Slot P)) → Allows (Ruled F declared callers) slots id me word (λ n. n) (Tells end_play step me)
+  pub end_allowed : {callers : ℕ} (slots : ℕ) (step : Step (Slot P O R)) → Allows (Ruled F declared callers) slots id me word (λ n. n) (Tells end_play step me)
   end_allowed slots step = retold_allowed end_row end_play end_same (end_moves F laws declared id (pass_in me.0) may) me is word end_there slots step
 
-  pub end_told : (step : Step (Slot P)) (found : ℕ) (after : Seated P) → Tells end_play step me found after → Tells end_row step me found after
+  pub end_told : (step : Step (Slot P O R)) (found : ℕ) (after : Seated P O R) → Tells end_play step me found after → Tells end_row step me found after
   end_told step found after told = retold end_row end_play end_same me after is step found told
 
-module _ {S L P : Type 0} (F : Layouts S L P) (laws : AreLaws F) (declared : List L) (id o : ℕ) (few : o < 16)
-    (me : Seated P) (is : IsSeatOf me (pass_in me.0)) (may : MayLookUp (length declared) o (pass_in me.0))
+module _ {S L P O R : Type 0} (F : Layouts S L P O R) (laws : AreLaws F) (declared : List L) (id o : ℕ) (few : o < 16)
+    (me : Seated P O R) (is : IsSeatOf me (pass_in me.0)) (may : MayLookUp (length declared) o (pass_in me.0))
     (word home : ℕ) (at : word ≡ local_word home o) (same : (pass_in me.0).turn.proc ≡ home) where
   look_there : word ≡ local_word (pass_in me.0).turn.proc o
   look_there = at ∙ ap (λ p. local_word p o) (sym same)
 
-  abbrev look_row : ℕ → PassView P → PassView P
+  abbrev look_row : ℕ → PassView P O R → PassView P O R
   look_row found x = took steps.LookUp (local_word x.turn.proc o) found (looked_up_view o found x)
 
-  abbrev look_play : ℕ → PassView P → PassView P
+  abbrev look_play : ℕ → PassView P O R → PassView P O R
   look_play found x = took steps.LookUp word found (looked_up_view (entry_object word) found x)
 
   look_same : (found : ℕ) → look_row found (pass_in me.0) ≡ look_play found (pass_in me.0)
@@ -367,10 +367,10 @@ module _ {S L P : Type 0} (F : Layouts S L P) (laws : AreLaws F) (declared : Lis
       ap (λ (z : ℕ × ℕ). took steps.LookUp z.0 found (looked_up_view z.1 found (pass_in me.0)))
       (λ j. (sym look_there j, sym (object_is home o word few at) j))
 
-  pub look_allowed : {callers : ℕ} (slots : ℕ) (step : Step (Slot P)) → Allows (Ruled F declared callers) slots id me word (λ n. n) (TellsWith look_play EntryFound step me)
+  pub look_allowed : {callers : ℕ} (slots : ℕ) (step : Step (Slot P O R)) → Allows (Ruled F declared callers) slots id me word (λ n. n) (TellsWith look_play EntryFound step me)
   look_allowed slots step =
       retold_allowed_with look_row look_play look_same (look_moves F laws declared id o (pass_in me.0) may) EntryFound
       (look_finds F laws declared id o (pass_in me.0) may) me is word look_there slots step
 
-  pub look_told : (step : Step (Slot P)) (found : ℕ) (after : Seated P) → TellsWith look_play EntryFound step me found after → Tells look_row step me found after
+  pub look_told : (step : Step (Slot P O R)) (found : ℕ) (after : Seated P O R) → TellsWith look_play EntryFound step me found after → Tells look_row step me found after
   look_told step found after told = retold look_row look_play look_same me after is step found told.0

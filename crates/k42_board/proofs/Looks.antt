@@ -101,8 +101,8 @@ not_not : (b : Bool) → not (not b) ≡ b
 not_not true = refl
 not_not false = refl
 
-module _ {S L P : Type 0} (F : Layouts S L P) (laws : AreLaws F) (declared : List L)
-    (table : State (Slot P) (View P)) (r : Rule F declared table) (id : ℕ) (v : PassView P)
+module _ {S L P O R : Type 0} (F : Layouts S L P O R) (laws : AreLaws F) (declared : List L)
+    (table : State (Slot P O R) (View P O R)) (r : Rule F declared table) (id : ℕ) (v : PassView P O R)
     (at : get_elem? table.views id ≡ some (Crew (v ∷ []))) where
   abbrev c : ℕ
   c = v.number
@@ -346,7 +346,7 @@ module _ {S L P : Type 0} (F : Layouts S L P) (laws : AreLaws F) (declared : Lis
     looked_is t e =
         ap (λ (z : Generations). record r.state { phases = record r.state.phases { turns = z; callers = set r.state.phases.callers c (y_of z) } }) e
 
-    abbrev Goal : PassView P → Type 0
+    abbrev Goal : PassView P O R → Type 0
     Goal w =
         (after : Rule F declared (with_pass table (set table.words i' found') table.homes id w))
         × (after.state ≡ effect r.state (AtPhases (Turn (Look c)))) × IsPossible F declared r.state (AtPhases (Turn (Look c)))
@@ -428,14 +428,14 @@ module _ {S L P : Type 0} (F : Layouts S L P) (laws : AreLaws F) (declared : Lis
   pub exits_found : (p parity : ℕ) → MayLook p parity v → ExitsFound v (get_or table.words (exits_word p parity) 0)
   exits_found p parity may = ⊎_elim (λ ahead. found_ahead_is p parity ahead) (λ back. found_back_is p parity back) may
 
-pub look_moves : {S L P : Type 0} (F : Layouts S L P) → AreLaws F → (declared : List L) (id i p parity : ℕ) (v : PassView P) → MayLook p parity v
+pub look_moves : {S L P O R : Type 0} (F : Layouts S L P O R) → AreLaws F → (declared : List L) (id i p parity : ℕ) (v : PassView P O R) → MayLook p parity v
     → i ≡ exits_word p parity
     → Moves F declared (AtPhases (Turn (look_event v.number v.turn.grace))) i (λ word. word) (λ found v. took steps.Look i found (looked_view found v)) id v
 look_moves {S} {L} {P} F laws declared id i p parity v may same = logged_moves_at steps.Look (λ n. n) (λ found o before is. is) same goes where
   goes : Moves F declared (AtPhases (Turn (look_event v.number v.turn.grace))) (exits_word p parity) (λ word. word) looked_view id v
   goes = record { from = λ table r at. looks_on F laws declared table r id v at p parity may }
 
-pub look_finds : {S L P : Type 0} (F : Layouts S L P) → AreLaws F → (declared : List L) (id i p parity : ℕ) (v : PassView P) → MayLook p parity v
+pub look_finds : {S L P O R : Type 0} (F : Layouts S L P O R) → AreLaws F → (declared : List L) (id i p parity : ℕ) (v : PassView P O R) → MayLook p parity v
     → i ≡ exits_word p parity → Finds F declared i ExitsFound id v
 look_finds F laws declared id i p parity v may same table r at =
     subst (λ (j : ℕ). ExitsFound v (get_or table.words j 0)) (sym same) (exits_found F laws declared table r id v at p parity may)

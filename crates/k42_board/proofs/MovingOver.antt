@@ -86,8 +86,8 @@ moving_value k swap are none =
     let a : bit k.swap ≡ 1 = ap bit swap in let b : bit k.block ≡ 1 = ap bit are.0 in
     let d : bit k.complete ≡ 0 = ap bit are.2 in omega (arith, a, b, d, none)
 
-module _ {S L P : Type 0} (F : Layouts S L P) (laws : AreLaws F) (declared : List L)
-    (table : State (Slot P) (View P)) (r : Rule F declared table) (id : ℕ) (v : PassView P)
+module _ {S L P O R : Type 0} (F : Layouts S L P O R) (laws : AreLaws F) (declared : List L)
+    (table : State (Slot P O R) (View P O R)) (r : Rule F declared table) (id : ℕ) (v : PassView P O R)
     (at : get_elem? table.views id ≡ some (Crew (v ∷ []))) (may : MayMove v) where
   abbrev s : Phases
   s = r.state.phases
@@ -150,7 +150,7 @@ module _ {S L P : Type 0} (F : Layouts S L P) (laws : AreLaws F) (declared : Lis
       (λ none. let here = eqb-true k.count 0 none in let a = shown in let b = blocked_is in eq-eqb found (blocked_word v) (omega (arith, here, a, b)))
 
   -- the event, where nobody is counted and where some are
-  abbrev tries : Bool → Visitor → Joined L
+  abbrev tries : Bool → Visitor → Joined L O R
   tries b z =
       let q = object_named z.swap in
       record r.state { phases = cond b (phase_events.staged s c q (Moved q) (record (object_at s q) { moving = true })) s; kept = r.state.kept }
@@ -169,7 +169,7 @@ module _ {S L P : Type 0} (F : Layouts S L P) (laws : AreLaws F) (declared : Lis
   staged : IsStaged r.state o k'
   staged = stays_staged r.state o k' (record { layout = refl; incarnation = refl; freed = refl; complete = λ done. done })
 
-  abbrev after : Joined L
+  abbrev after : Joined L O R
   after = visited r.state (set s.objects o k') (set s.callers c (at_stage v.visitor (Moved o))) r.state.kept
 
   -- the row was not handed on yet
@@ -235,37 +235,37 @@ module _ {S L P : Type 0} (F : Layouts S L P) (laws : AreLaws F) (declared : Lis
         few = omega (arith, a, n, l);
       }
 
-move_goes : {S L P : Type 0} (F : Layouts S L P) → AreLaws F → (declared : List L) (id : ℕ) (v : PassView P) → MayMove v
+move_goes : {S L P O R : Type 0} (F : Layouts S L P O R) → AreLaws F → (declared : List L) (id : ℕ) (v : PassView P O R) → MayMove v
     → Moves F declared (AtPhases (Move v.number)) (object_word (object_swapped v)) (moves v) moved_view id v
 move_goes F laws declared id v may = record { from = λ table r at. tries_to_move F laws declared table r id v at may }
 
-pub move_moves : {S L P : Type 0} (F : Layouts S L P) → AreLaws F → (declared : List L) (id : ℕ) (v : PassView P) → MayMove v
+pub move_moves : {S L P O R : Type 0} (F : Layouts S L P O R) → AreLaws F → (declared : List L) (id : ℕ) (v : PassView P O R) → MayMove v
     → Moves F declared (AtPhases (Move v.number)) (object_word (object_swapped v)) (moves v) (λ found x. took steps.Move (object_word (object_swapped x)) found (moved_view found x))
     id v
 move_moves F laws declared id v may = record { from = (logged_moves steps.Move (λ n. n) (λ found q before is. is) (move_goes F laws declared id v may)).from }
 
-pub move_finds : {S L P : Type 0} (F : Layouts S L P) → AreLaws F → (declared : List L) (id : ℕ) (v : PassView P) → MayMove v
+pub move_finds : {S L P O R : Type 0} (F : Layouts S L P O R) → AreLaws F → (declared : List L) (id : ℕ) (v : PassView P O R) → MayMove v
     → Finds F declared (object_word (object_swapped v)) CountFound id v
 move_finds F laws declared id v may table r at = count_seen F laws declared table r id v at may
 
 -- as the play tells it, of an exchange of these words at the word that the step names
-module _ {S L P : Type 0} (F : Layouts S L P) (laws : AreLaws F) (declared : List L) (id : ℕ)
-    (me : Seated P) (is : IsSeatOf me (pass_in me.0)) (may : MayMove (pass_in me.0))
+module _ {S L P O R : Type 0} (F : Layouts S L P O R) (laws : AreLaws F) (declared : List L) (id : ℕ)
+    (me : Seated P O R) (is : IsSeatOf me (pass_in me.0)) (may : MayMove (pass_in me.0))
     (word o : ℕ) (at : word ≡ object_word o) (same : object_swapped (pass_in me.0) ≡ o) (old new : ℕ)
     (words : (old ≡ blocked_word (pass_in me.0)) × (new ≡ blocked_word (pass_in me.0) + 2 ^ 26)) where
   move_there : word ≡ object_word (object_swapped (pass_in me.0))
   move_there = at ∙ ap object_word (sym same)
 
-  abbrev move_row : ℕ → PassView P → PassView P
+  abbrev move_row : ℕ → PassView P O R → PassView P O R
   move_row found x = took steps.Move (object_word (object_swapped x)) found (moved_view found x)
 
-  abbrev move_play : ℕ → PassView P → PassView P
+  abbrev move_play : ℕ → PassView P O R → PassView P O R
   move_play found x = took steps.Move word found (moved_view found x)
 
   move_same : (found : ℕ) → move_row found (pass_in me.0) ≡ move_play found (pass_in me.0)
   move_same found = ap (λ i. took steps.Move i found (moved_view found (pass_in me.0))) (sym move_there)
 
-  pub move_allowed : {callers : ℕ} (slots : ℕ) (step : Step (Slot P))
+  pub move_allowed : {callers : ℕ} (slots : ℕ) (step : Step (Slot P O R))
       → Allows (Ruled F declared callers) slots id me word (λ n. either (eqb n old) new n) (TellsWith move_play CountFound step me)
   move_allowed {callers} slots step =
       subst (λ (z : ℕ × ℕ). Allows (Ruled F declared callers) slots id me word (λ n. either (eqb n z.0) z.1 n) (TellsWith move_play CountFound step me))
@@ -273,5 +273,5 @@ module _ {S L P : Type 0} (F : Layouts S L P) (laws : AreLaws F) (declared : Lis
       (retold_allowed_with move_row move_play move_same (move_moves F laws declared id (pass_in me.0) may) CountFound
       (move_finds F laws declared id (pass_in me.0) may) me is word move_there slots step)
 
-  pub move_told : (step : Step (Slot P)) (found : ℕ) (after : Seated P) → TellsWith move_play CountFound step me found after → Tells move_row step me found after
+  pub move_told : (step : Step (Slot P O R)) (found : ℕ) (after : Seated P O R) → TellsWith move_play CountFound step me found after → Tells move_row step me found after
   move_told step found after told = retold move_row move_play move_same me after is step found told.0

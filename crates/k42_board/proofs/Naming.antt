@@ -59,9 +59,9 @@ renamed_both row seat names other same = by_test (is_row row other) where
 abbrev pub beside_named : {P : Type 0} → Beside P → (Row → ℕ) → Beside P
 beside_named beside names = record beside { row_seat = names }
 
-module _ {L P : Type 0} (tag_of : L → ℕ) (s : Joined L) (beside : Beside P) (names : Row → ℕ) where
+module _ {L P O R : Type 0} (tag_of : L → ℕ) (s : Joined L O R) (beside : Beside P) (names : Row → ℕ) where
   -- a pass that holds other rows, by other names
-  pub with_rows : (id : ℕ) (v : PassView P) (rows : List Row) (granted : ℕ) → KnowsPass tag_of s beside id v → NamesRows (beside_named beside names) id rows
+  pub with_rows : (id : ℕ) (v : PassView P O R) (rows : List Row) (granted : ℕ) → KnowsPass tag_of s beside id v → NamesRows (beside_named beside names) id rows
       → EachPlace (λ place row. IsOld s.phases row) rows → EachPlace (λ place row. IsGranted v.visitor.noted row) (take granted rows)
       → KnowsPass tag_of s (beside_named beside names) id (record v { rows = rows; granted = granted })
   with_rows id v rows granted k named old grants = record {
@@ -108,7 +108,7 @@ module _ {L P : Type 0} (tag_of : L → ℕ) (s : Joined L) (beside : Beside P) 
   }
 
   -- names of another seat stay
-  pub other_names : (j : ℕ) (view : View P) → ((row : Row) → beside.row_seat row ≡ j → names row ≡ j) → Knows tag_of s beside j view
+  pub other_names : (j : ℕ) (view : View P O R) → ((row : Row) → beside.row_seat row ≡ j → names row ≡ j) → Knows tag_of s beside j view
       → Knows tag_of s (beside_named beside names) j view
   other_names j (Crew passes) same knows = (knows.0, each) where
     each : EachPlace (λ place v. KnowsPass tag_of s (beside_named beside names) j v) passes
@@ -130,7 +130,7 @@ in_front (suc n) [] ys i a e = absurd (none_there i a e)
 in_front (suc n) (x ∷ xs) ys zero a e = e
 in_front (suc n) (x ∷ xs) ys (suc i) a e = in_front n xs ys i a e
 
-module _ {S L P : Type 0} (F : Layouts S L P) (declared : List L) (callers id : ℕ) (v : PassView P) where
+module _ {S L P O R : Type 0} (F : Layouts S L P O R) (declared : List L) (callers id : ℕ) (v : PassView P O R) where
   module _ (row : Row) (rest : List Row) (rows_are : v.rows ≡ rest ++ row ∷ []) where
     split : Splits (Rule F declared) id (Crew (v ∷ [])) (Crew (record v { rows = rest; granted = min v.granted (length rest) } ∷ [])) (Named row)
     split table r at = record {
@@ -149,10 +149,10 @@ module _ {S L P : Type 0} (F : Layouts S L P) (declared : List L) (callers id : 
       parts = r.parts;
       seats = λ j view e.
           ⊎_elim
-          (λ new. subst (λ (z : ℕ × View P). Knows F.tag_of r.state (beside_named r.beside names) z.0 z.1) (λ i. (sym (new.0 ∙ length-set table.views id (Crew (w ∷ []))) i, new.1 i)) (old (length rest) row here, renamed_here row last r.beside.row_seat))
+          (λ new. subst (λ (z : ℕ × View P O R). Knows F.tag_of r.state (beside_named r.beside names) z.0 z.1) (λ i. (sym (new.0 ∙ length-set table.views id (Crew (w ∷ []))) i, new.1 i)) (old (length rest) row here, renamed_here row last r.beside.row_seat))
           (λ before.
           ⊎_elim
-          (λ is. subst (λ (z : ℕ × View P). Knows F.tag_of r.state (beside_named r.beside names) z.0 z.1) (λ i. (sym is.0 i, is.1 i)) left)
+          (λ is. subst (λ (z : ℕ × View P O R). Knows F.tag_of r.state (beside_named r.beside names) z.0 z.1) (λ i. (sym is.0 i, is.1 i)) left)
           (λ else. other_names F.tag_of r.state r.beside names j view (other_same j else.0) (r.seats j view else.1))
           (at_set table.views id j (Crew (w ∷ [])) view before))
           (at_end (set table.views id (Crew (w ∷ []))) (Named row) view j e);
@@ -163,7 +163,7 @@ module _ {S L P : Type 0} (F : Layouts S L P) (declared : List L) (callers id : 
       names : Row → ℕ
       names = renamed row (length table.views) r.beside.row_seat
 
-      w : PassView P
+      w : PassView P O R
       w = record v { rows = rest; granted = min v.granted (length rest) }
 
       k : KnowsPass F.tag_of r.state r.beside id v
@@ -199,7 +199,7 @@ module _ {S L P : Type 0} (F : Layouts S L P) (declared : List L) (callers id : 
             (ap (λ (l : List Row). slice_get (take v.granted l) place) rows_are
             ∙ in_front v.granted rest (row ∷ []) place other (ap (λ l. slice_get l place) (sym (take_min v.granted rest)) ∙ e)))
 
-        each : (place : ℕ) (x : PassView P) → slice_get (w ∷ []) place ≡ Some x → KnowsPass F.tag_of r.state (beside_named r.beside names) id x
+        each : (place : ℕ) (x : PassView P O R) → slice_get (w ∷ []) place ≡ Some x → KnowsPass F.tag_of r.state (beside_named r.beside names) id x
         each zero x e = subst (KnowsPass F.tag_of r.state (beside_named r.beside names) id) (same_Some w x e) mine
         each (suc place) x e = absurd (cc)
 
@@ -233,10 +233,10 @@ module _ {S L P : Type 0} (F : Layouts S L P) (declared : List L) (callers id : 
       parts = r.parts;
       seats = λ j view e.
           ⊎_elim
-          (λ gone. subst (λ (z : View P). Knows F.tag_of r.state (beside_named r.beside names) j z) gone.1 tt)
+          (λ gone. subst (λ (z : View P O R). Knows F.tag_of r.state (beside_named r.beside names) j z) gone.1 tt)
           (λ else.
           ⊎_elim
-          (λ is. subst (λ (z : ℕ × View P). Knows F.tag_of r.state (beside_named r.beside names) z.0 z.1) (λ i. (sym is.0 i, is.1 i)) joined)
+          (λ is. subst (λ (z : ℕ × View P O R). Knows F.tag_of r.state (beside_named r.beside names) z.0 z.1) (λ i. (sym is.0 i, is.1 i)) joined)
           (λ before. other_names F.tag_of r.state r.beside names j view (other_same j else.0) (r.seats j view before.1))
           (at_set table.views id j (Crew (w ∷ [])) view else.1))
           (at_set (set table.views id (Crew (w ∷ []))) other j Spent view e);
@@ -244,7 +244,7 @@ module _ {S L P : Type 0} (F : Layouts S L P) (declared : List L) (callers id : 
       names : Row → ℕ
       names = renamed row id r.beside.row_seat
 
-      w : PassView P
+      w : PassView P O R
       w = record v { rows = rows; granted = granted }
 
       k : KnowsPass F.tag_of r.state r.beside id v
@@ -276,7 +276,7 @@ module _ {S L P : Type 0} (F : Layouts S L P) (declared : List L) (callers id : 
             (among i x e))
             (grants k.phases.rows.granted)
 
-        each : (place : ℕ) (x : PassView P) → slice_get (w ∷ []) place ≡ Some x → KnowsPass F.tag_of r.state (beside_named r.beside names) id x
+        each : (place : ℕ) (x : PassView P O R) → slice_get (w ∷ []) place ≡ Some x → KnowsPass F.tag_of r.state (beside_named r.beside names) id x
         each zero x e = subst (KnowsPass F.tag_of r.state (beside_named r.beside names) id) (same_Some w x e) mine
         each (suc place) x e = absurd (cc)
 
@@ -332,12 +332,12 @@ set_same (x ∷ words) zero = refl
 set_same (x ∷ words) (suc i) = ap (λ l. x ∷ l) (set_same words i)
 
 -- the pass learns which of its rows are granted
-module _ {S L P : Type 0} (F : Layouts S L P) (declared : List L) (id : ℕ) (v : PassView P) where
+module _ {S L P O R : Type 0} (F : Layouts S L P O R) (declared : List L) (id : ℕ) (v : PassView P O R) where
   pub finds_granted : Finds F declared 0 AreGranted id v
   finds_granted table r at = (known F declared table r id v at).phases.rows.granted
 
   pub stays_so : Stays F declared 0 (λ n. n) (λ found x. x) id v
-  stays_so = record { from = λ table r at. subst (λ (t : State (Slot P) (View P)). (after : Rule F declared t) × (after.state ≡ r.state)) (λ i. record { words = sym (set_same table.words 0) i; homes = table.homes; views = sym (set_again table.views id (Crew (v ∷ [])) at) i }) (r, refl) }
+  stays_so = record { from = λ table r at. subst (λ (t : State (Slot P O R) (View P O R)). (after : Rule F declared t) × (after.state ≡ r.state)) (λ i. record { words = sym (set_same table.words 0) i; homes = table.homes; views = sym (set_again table.views id (Crew (v ∷ [])) at) i }) (r, refl) }
 
 -- a list of rows is its older ones and the newest
 
@@ -362,26 +362,26 @@ newest_is rest row rows are =
 
 -- the same for seats
 
-module _ {S L P : Type 0} (F : Layouts S L P) (declared : List L) (callers id : ℕ) (v : PassView P) (me : Seated P) (is : IsSeatOf me v) where
+module _ {S L P O R : Type 0} (F : Layouts S L P O R) (declared : List L) (callers id : ℕ) (v : PassView P O R) (me : Seated P O R) (is : IsSeatOf me v) where
   pub splits_newest : 0 < length v.rows → Splits (Ruled F declared callers) id me.0 (keeps_older me.0) (names_newest me.0)
   splits_newest lt =
-      subst (λ (m : Seated P). Splits (Ruled F declared callers) id m.0 (keeps_older m.0) (names_newest m.0)) (sym is)
+      subst (λ (m : Seated P O R). Splits (Ruled F declared callers) id m.0 (keeps_older m.0) (names_newest m.0)) (sym is)
       (splits_row F declared callers id v (newest v.rows) (older v.rows) (parts_of v.rows lt))
 
-  module _ (other : ℕ) (row : Row) (own : Seated P) (named : own ≡ (Named row, [])) where
+  module _ (other : ℕ) (row : Row) (own : Seated P O R) (named : own ≡ (Named row, [])) where
     pub joins_back : (more : ℕ) → more ≤ 1 → v.granted ≤ length v.rows → (0 < more → (v.granted ≡ length v.rows) × IsGranted v.visitor.noted row)
         → Joins (Ruled F declared callers) id me.0 other own.0 (takes_back more me.0 own.0) Spent
     joins_back more most few all =
-        subst (λ (z : Seated P × Seated P). Joins (Ruled F declared callers) id z.0.0 other z.1.0 (takes_back more z.0.0 z.1.0) Spent)
+        subst (λ (z : Seated P O R × Seated P O R). Joins (Ruled F declared callers) id z.0.0 other z.1.0 (takes_back more z.0.0 z.1.0) Spent)
         (λ i. (sym is i, sym named i)) (joins_again F declared callers id v other row more most few all)
 
     pub joins_in : v.granted ≤ length v.rows → Joins (Ruled F declared callers) id me.0 other own.0 (takes_in me.0 own.0) Spent
     joins_in few =
-        subst (λ (z : Seated P × Seated P). Joins (Ruled F declared callers) id z.0.0 other z.1.0 (takes_in z.0.0 z.1.0) Spent)
+        subst (λ (z : Seated P O R × Seated P O R). Joins (Ruled F declared callers) id z.0.0 other z.1.0 (takes_in z.0.0 z.1.0) Spent)
         (λ i. (sym is i, sym named i)) (joins_newest F declared callers id v other row few)
 
 -- the newest row is granted where all are
-pub granted_newest : {P : Type 0} (v : PassView P) → AreGranted v 0 → length v.rows ≤ v.granted → 0 < length v.rows → IsGranted v.visitor.noted (newest v.rows)
+pub granted_newest : {P O R : Type 0} (v : PassView P O R) → AreGranted v 0 → length v.rows ≤ v.granted → 0 < length v.rows → IsGranted v.visitor.noted (newest v.rows)
 granted_newest v are all lt =
     are (length v.rows - 1) (newest v.rows)
     (ap (λ (l : List Row). slice_get l (length v.rows - 1)) (take_all v.granted v.rows all)

@@ -10,6 +10,8 @@ use Rattle.k42_board.specs.Views.{new_pass}
 use Rattle.k42_board.specs.declared.view.LastBegin.{LastBegin}
 use Rattle.k42_board.specs.declared.view.PassView.{PassView}
 use Rattle.k42_board.specs.declared.view.Row.{Row}
+use Rattle.k42_kinds.specs.declared.operation.Op.{Op}
+use Rattle.k42_kinds.specs.declared.operation.Reply.{Reply}
 
 -- two rows of the object 3, the newer one first, and one of the object 5
 abbrev rows : List Row
@@ -49,7 +51,7 @@ pairs = refl
 abbrev flipping : Caller
 flipping = record (fresh_caller 3 0) { grace = Flipping 1; waits = 4 ∷ 0 ∷ 0 ∷ []; coming = Some 6 }
 
-abbrev asked : PassView ℕ
+abbrev asked : PassView ℕ Op Reply
 asked = record (new_pass 3 1 0 0) { turn = flipping; base = Some 9 }
 
 -- generation 10, with the exits to come as its entries

@@ -22,26 +22,26 @@ use Rattle.k42_board.specs.declared.view.View.TheVariants.{Crew, Kept, Named, Dr
 
 -- a table whose words and slots are others, and where the seat has another pass
 abbrev pub with_pass :
-    {P : Type 0} → State (Slot P) (View P) → List ℕ → List (maybe.Option (Slot P)) → ℕ → PassView P
-    → State (Slot P) (View P)
+    {P O R : Type 0} → State (Slot P O R) (View P O R) → List ℕ → List (maybe.Option (Slot P O R)) → ℕ → PassView P O R
+    → State (Slot P O R) (View P O R)
 with_pass table words homes id w =
     record { words = words; homes = homes; views = set table.views id (Crew (w ∷ [])) }
 
-pub apart_alone : {P : Type 0} (w : PassView P) → AreApart (w ∷ [])
+pub apart_alone : {P O R : Type 0} (w : PassView P O R) → AreApart (w ∷ [])
 apart_alone w zero zero v x e f same = refl
 apart_alone w zero (suc j) v x e f same = absurd (cc)
 apart_alone w (suc i) j v x e f same = absurd (cc)
 
-module _ {S L P : Type 0} (F : Layouts S L P) (declared : List L)
-    (table : State (Slot P) (View P)) (r : Rule F declared table) (id : ℕ) (v : PassView P)
+module _ {S L P O R : Type 0} (F : Layouts S L P O R) (declared : List L)
+    (table : State (Slot P O R) (View P O R)) (r : Rule F declared table) (id : ℕ) (v : PassView P O R)
     (at : get_elem? table.views id ≡ some (Crew (v ∷ []))) where
   pub known : KnowsPass F.tag_of r.state r.beside id v
   known = (r.seats id (Crew (v ∷ [])) at).1 0 v refl
 
   -- what the seats other than this one know stays
-  pub record LeavesOthers (t : Joined L) (beside : Beside P) : Type 0 where
+  pub record LeavesOthers (t : Joined L O R) (beside : Beside P) : Type 0 where
     pub passes :
-        (j : ℕ) (x : PassView P) → x.number ≢ v.number → KnowsPass F.tag_of r.state r.beside j x
+        (j : ℕ) (x : PassView P O R) → x.number ≢ v.number → KnowsPass F.tag_of r.state r.beside j x
         → KnowsPass F.tag_of t beside j x
     -- and what is named keeps its name
     pub named :
@@ -50,9 +50,9 @@ module _ {S L P : Type 0} (F : Layouts S L P) (declared : List L)
     -- and what was drawn stays known
     pub drawn : (stamp : ℕ) → is_known r.state.turns stamp ≡ true → is_known t.turns stamp ≡ true
 
-  module _ (t : Joined L) (beside : Beside P) (words : List ℕ) (homes : List (maybe.Option (Slot P)))
-      (w : PassView P) (leaves : LeavesOthers t beside) where
-    other : (j : ℕ) (view : View P) → j ≢ id → Knows F.tag_of r.state r.beside j view → Knows F.tag_of t beside j view
+  module _ (t : Joined L O R) (beside : Beside P) (words : List ℕ) (homes : List (maybe.Option (Slot P O R)))
+      (w : PassView P O R) (leaves : LeavesOthers t beside) where
+    other : (j : ℕ) (view : View P O R) → j ≢ id → Knows F.tag_of r.state r.beside j view → Knows F.tag_of t beside j view
     other j (Crew passes) not knows = (
       knows.0,
       λ place x here.
@@ -64,7 +64,7 @@ module _ {S L P : Type 0} (F : Layouts S L P) (declared : List L)
     other j (Drew stamp) not knows = leaves.drawn stamp knows
     other j Spent not knows = tt
 
-    own : KnowsPass F.tag_of t beside id w → (place : ℕ) (x : PassView P) → slice_get (w ∷ []) place ≡ Some x
+    own : KnowsPass F.tag_of t beside id w → (place : ℕ) (x : PassView P O R) → slice_get (w ∷ []) place ≡ Some x
         → KnowsPass F.tag_of t beside id x
     own mine zero x e = subst (KnowsPass F.tag_of t beside id) (same_Some w x e) mine
     own mine (suc place) x e = absurd (cc)
@@ -83,7 +83,7 @@ module _ {S L P : Type 0} (F : Layouts S L P) (declared : List L)
         seats = λ j view e.
             ⊎_elim
             (λ here.
-            subst (λ (z : ℕ × View P). Knows F.tag_of t beside z.0 z.1) (λ i. (sym here.0 i, here.1 i)) (apart_alone w, own mine))
+            subst (λ (z : ℕ × View P O R). Knows F.tag_of t beside z.0 z.1) (λ i. (sym here.0 i, here.1 i)) (apart_alone w, own mine))
             (λ old. other j view old.0 (r.seats j view old.1))
             (at_set table.views id j (Crew (w ∷ [])) view e);
       },

@@ -44,7 +44,7 @@ use Rattle.k42_board.proofs.CellsTouched.{swapped_there, freed}
 use Rattle.k42_board.proofs.OnePass.{known}
 
 -- layouts of one object with one tag do the same with parts
-abbrev pub AreOneWay : {S L P : Type 0} → Layouts S L P → Type 0
+abbrev pub AreOneWay : {S L P O R : Type 0} → Layouts S L P O R → Type 0
 AreOneWay {S} {L} {P} F = (layout other : L) → F.object_of layout ≡ F.object_of other → F.tag_of layout ≡ F.tag_of other → F.ways_of layout ≡ F.ways_of other
 
 some_part : {P : Type 0} (parts : List P) (place : ℕ) → place < length parts → part_at parts place ≡ None → ⊥
@@ -53,24 +53,24 @@ some_part (part ∷ parts) zero lt e = cc
 some_part (part ∷ parts) (suc place) lt e = some_part parts place (omega (arith, lt)) e
 
 -- where a missing part stands for the empty one, the empty one is due
-empty_for_none : {S P : Type 0} (ways : Ways S P) (procs place : ℕ) (due : Option P) → (due ≡ None → ⊥) → HasDue ways procs place None due
+empty_for_none : {S P O R : Type 0} (ways : Ways S P O R) (procs place : ℕ) (due : Option P) → (due ≡ None → ⊥) → HasDue ways procs place None due
     → HasDue ways procs place (Some (ways.empty procs place)) due
 empty_for_none ways procs place (Some due) there is = sym is
 empty_for_none ways procs place None there is = there refl
 
-no_second : {L P : Type 0} (chain : Chain L P) (row : Row L P) → length chain.past ≡ 0 → row_in chain 1 ≡ Some row → ⊥
-no_second {L} {P} chain row none e = go chain.past refl none where
-  go : (past : List (Turn L P)) → chain.past ≡ past → length chain.past ≡ 0 → ⊥
-  go [] is none' = let found = ap (λ (turns : List (Turn L P)). row_in (record chain { past = turns }) 1) (sym is) ∙ e in cc
+no_second : {L P O R : Type 0} (chain : Chain L P O R) (row : Row L P O R) → length chain.past ≡ 0 → row_in chain 1 ≡ Some row → ⊥
+no_second {L} {P} {O} {R} chain row none e = go chain.past refl none where
+  go : (past : List (Turn L P O R)) → chain.past ≡ past → length chain.past ≡ 0 → ⊥
+  go [] is none' = let found = ap (λ (turns : List (Turn L P O R)). row_in (record chain { past = turns }) 1) (sym is) ∙ e in cc
   go (turn ∷ past) is none' = let long = ap length is in omega (arith, long, none')
 
-first_row : {L P : Type 0} (chain : Chain L P) (i : ℕ) → i ≡ length chain.past → row_in chain i ≡ Some chain.row
+first_row : {L P O R : Type 0} (chain : Chain L P O R) (i : ℕ) → i ≡ length chain.past → row_in chain i ≡ Some chain.row
 first_row chain i e = let same = eq-eqb i (length chain.past) e in rw same refl
 
-module _ {S L P : Type 0} (F : Layouts S L P) (laws : AreLaws F) (declared : List L)
-    (table : State (Slot P) (View P)) (r : Rule F declared table) (id : ℕ) (v : PassView P)
+module _ {S L P O R : Type 0} (F : Layouts S L P O R) (laws : AreLaws F) (declared : List L)
+    (table : State (Slot P O R) (View P O R)) (r : Rule F declared table) (id : ℕ) (v : PassView P O R)
     (at : get_elem? table.views id ≡ some (Crew (v ∷ []))) where
-  abbrev s : Joined L
+  abbrev s : Joined L O R
   s = r.state
 
   abbrev c : ℕ
@@ -152,11 +152,11 @@ module _ {S L P : Type 0} (F : Layouts S L P) (laws : AreLaws F) (declared : Lis
         ahead
 
     -- the row of any chain that fits is the present one, with the object's tag
-    pub record IsRowNow (declaration : L) (chain : Chain L P) : Type 0 where
+    pub record IsRowNow (declaration : L) (chain : Chain L P O R) : Type 0 where
       pub many : length chain.past ≡ incarnation s o
       pub tagged : F.tag_of chain.row.layout ≡ (object s o).layout
 
-    pub row_now : (declaration : L) (chain : Chain L P) → slice_get declared o ≡ Some declaration → AreRowsOf F declaration s o chain → IsRowNow declaration chain
+    pub row_now : (declaration : L) (chain : Chain L P O R) → slice_get declared o ≡ Some declaration → AreRowsOf F declaration s o chain → IsRowNow declaration chain
     row_now declaration chain declares rows = record { many = long ∙ hands_are; tagged = tagged chain.row.layout newest } where
       same : declaration ≡ at_o.declaration
       same = same_Some declaration at_o.declaration (sym declares ∙ at_o.declares)
@@ -193,7 +193,7 @@ module _ {S L P : Type 0} (F : Layouts S L P) (laws : AreLaws F) (declared : Lis
           let number : cell_of o (incarnation s o) p < many_objects s * 16 = cell_there (many_objects s) o (incarnation s o) p named few in
           omega (arith, many, number, here)
 
-      pub has_due : (declaration : L) (chain : Chain L P) → slice_get declared o ≡ Some declaration → AreRowsOf F declaration s o chain
+      pub has_due : (declaration : L) (chain : Chain L P O R) → slice_get declared o ≡ Some declaration → AreRowsOf F declaration s o chain
           → HasDue (F.ways_of chain.row.layout) F.procs p (r.beside.contents.part n) (part_at (parts_of F chain.row) p)
       has_due declaration chain declares rows =
           let now = row_now declaration chain declares rows in
@@ -240,9 +240,9 @@ module _ {S L P : Type 0} (F : Layouts S L P) (laws : AreLaws F) (declared : Lis
           let inside : p < length (parts_of F chain.row) = subst (λ k. p < k) (ap (λ t. cells_of t F.procs) tags ∙ sym sized) place in
           let old = subst (λ part. HasDue (F.ways_of chain.row.layout) F.procs p part (part_at (parts_of F chain.row) p)) none (has_due n p here lt declaration' chain declares'' rows) in
           let new : HasDue (F.ways_of chain.row.layout) F.procs p (Some ((F.ways_of layout).empty F.procs p)) (part_at (parts_of F chain.row) p) =
-          subst (λ (w : Ways S P). HasDue (F.ways_of chain.row.layout) F.procs p (Some (w.empty F.procs p)) (part_at (parts_of F chain.row) p)) (sym ways)
+          subst (λ (w : Ways S P O R). HasDue (F.ways_of chain.row.layout) F.procs p (Some (w.empty F.procs p)) (part_at (parts_of F chain.row) p)) (sym ways)
           (empty_for_none (F.ways_of chain.row.layout) F.procs p (part_at (parts_of F chain.row) p) (some_part (parts_of F chain.row) p inside) old) in
-          subst (λ (z : Row L P). HasDue (F.ways_of z.layout) F.procs (place_of n) (Some ((F.ways_of layout).empty F.procs p)) (part_at (parts_of F z) (place_of n))) row_is
+          subst (λ (z : Row L P O R). HasDue (F.ways_of z.layout) F.procs (place_of n) (Some ((F.ways_of layout).empty F.procs p)) (part_at (parts_of F z) (place_of n))) row_is
           (subst (λ k. HasDue (F.ways_of chain.row.layout) F.procs k (Some ((F.ways_of layout).empty F.procs p)) (part_at (parts_of F chain.row) k)) (sym (place_is n p here lt)) new);
       before = λ ahead.
           let q = object_is n p here lt in let life = life_is n p here lt in let hands = hands_are in
@@ -262,7 +262,7 @@ module _ {S L P : Type 0} (F : Layouts S L P) (laws : AreLaws F) (declared : Lis
   }
 
   -- the part that is noted of a cell is due
-  pub noted_due : (place : ℕ) (note : Note P) → slice_get v.notes place ≡ Some note → IsPart F declared s note.cell note.part
+  pub noted_due : (place : ℕ) (note : Note P O R) → slice_get v.notes place ≡ Some note → IsPart F declared s note.cell note.part
   noted_due place note e =
       subst (IsPart F declared s note.cell) (knows.cells.notes place note e).part
       (r.parts note.cell (note_there F laws declared table r id v at note.cell place note e refl))
@@ -297,7 +297,7 @@ module _ {S L P : Type 0} (F : Layouts S L P) (laws : AreLaws F) (declared : Lis
         ap (λ j. (cell_in s o (j + 1) p).life) is.row ∙ (r.sound.cells.locks.lives o p is.present.named (within p lt)).other.life
         ∙ ap (other_life (incarnation s o)) is.present.unhanded
 
-    none : (b : Bool) → eqb (incarnation s o) 0 ≡ b → {declaration : L} (chain : Chain L P) (row : Row L P) → AreRowsOf F declaration s (object_of n) chain → row_in chain (cell s n).life ≡ Some row
+    none : (b : Bool) → eqb (incarnation s o) 0 ≡ b → {declaration : L} (chain : Chain L P O R) (row : Row L P O R) → AreRowsOf F declaration s (object_of n) chain → row_in chain (cell s n).life ≡ Some row
         → (object s (object_of n)).freed ≤ (cell s n).life → ⊥
     none false e chain row rows here kept =
         let less : other_life (incarnation s o) false ≡ incarnation s o - 1 = grind (arith, nat_tests, e) in
@@ -311,16 +311,16 @@ module _ {S L P : Type 0} (F : Layouts S L P) (laws : AreLaws F) (declared : Lis
         let past : length chain.past ≡ 0 = past_length (subst (λ k. AreRowsOf F declaration s k chain) q rows) ∙ hands_are o is.present ∙ zero_is in
         no_second chain row past (ap (row_in chain) (sym (life ∙ one)) ∙ here)
       where
-        past_length : {declaration : L} {chain : Chain L P} → AreRowsOf F declaration s o chain → length chain.past ≡ many_hands s o
+        past_length : {declaration : L} {chain : Chain L P O R} → AreRowsOf F declaration s o chain → length chain.past ≡ many_hands s o
         past_length {declaration} {chain} rows =
             let long = ap length rows.layouts in
-            let mapped = length-map chain.past (λ (turn : Turn L P). turn.row.layout) in
+            let mapped = length-map chain.past (λ (turn : Turn L P O R). turn.row.layout) in
             let more = length-append (layouts_of s o) (declaration ∷ []) in
             omega (arith, long, mapped, more)
 
   -- where nothing is noted of a place, the empty part is due
 
-  pub empty_inside : AreOneWay F → (place : ℕ) (note : Note P) → slice_get v.notes place ≡ Some note → note.part ≡ None
+  pub empty_inside : AreOneWay F → (place : ℕ) (note : Note P O R) → slice_get v.notes place ≡ Some note → note.part ≡ None
       → (o i p : ℕ) → IsInside v.visitor.place o i → note.cell ≡ cell_of o i p → p < F.procs
       → (declaration layout : L) → slice_get declared o ≡ Some declaration → F.object_of layout ≡ F.object_of declaration → v.layout ≡ Some (F.tag_of layout)
       → p < cells_of (F.tag_of layout) F.procs → IsPart F declared s note.cell (Some ((F.ways_of layout).empty F.procs p))
@@ -329,7 +329,7 @@ module _ {S L P : Type 0} (F : Layouts S L P) (laws : AreLaws F) (declared : Lis
       empty_due o is.0 one_way note.cell p (named ∙ ap (λ j. cell_of o j p) is.1) lt ((knows.cells.notes place note e).part ∙ none) declaration layout declares kind
       (sym (knows.phases.layout (F.tag_of layout) o i known' inside)) within'
 
-  pub empty_moved : AreOneWay F → (place : ℕ) (note : Note P) → slice_get v.notes place ≡ Some note → note.part ≡ None
+  pub empty_moved : AreOneWay F → (place : ℕ) (note : Note P O R) → slice_get v.notes place ≡ Some note → note.part ≡ None
       → (o p : ℕ) → v.visitor.swap ≡ Moved o → v.handed ≡ None → note.cell ≡ cell_of o (incarnation_in (word_begun v.last)) p → p < F.procs
       → (declaration layout : L) → slice_get declared o ≡ Some declaration → F.object_of layout ≡ F.object_of declaration → F.tag_of layout ≡ layout_in (word_begun v.last)
       → p < cells_of (F.tag_of layout) F.procs → IsPart F declared s note.cell (Some ((F.ways_of layout).empty F.procs p))
@@ -339,11 +339,11 @@ module _ {S L P : Type 0} (F : Layouts S L P) (laws : AreLaws F) (declared : Lis
       (tag ∙ sym is.layout) within'
 
 -- The same in every state that the table shows while the pass has the view.
-module _ {S L P : Type 0} (F : Layouts S L P) (laws : AreLaws F) (declared : List L) (id : ℕ) (v : PassView P) where
+module _ {S L P O R : Type 0} (F : Layouts S L P O R) (laws : AreLaws F) (declared : List L) (id : ℕ) (v : PassView P O R) where
   pub rows_always : Always F declared id v (λ s. AreRowsNoted F declared v)
   rows_always table r at = rows_noted F laws declared table r id v at
 
-  pub noted_always : (place : ℕ) (note : Note P) → slice_get v.notes place ≡ Some note → Always F declared id v (λ s. IsPart F declared s note.cell note.part)
+  pub noted_always : (place : ℕ) (note : Note P O R) → slice_get v.notes place ≡ Some note → Always F declared id v (λ s. IsPart F declared s note.cell note.part)
   noted_always place note e table r at = noted_due F laws declared table r id v at place note e
 
   pub freed_always : (n : ℕ) → TouchesFreed F.procs n v → Always F declared id v (λ s. IsPart F declared s n None)
@@ -353,14 +353,14 @@ module _ {S L P : Type 0} (F : Layouts S L P) (laws : AreLaws F) (declared : Lis
       → Always F declared id v (λ s. IsPart F declared s (cell_of o (incarnation_in (word_begun v.last) + 1) p) None)
   next_always o p swap unhanded lt table r at = next_due F laws declared table r id v at o p swap unhanded lt
 
-  pub empty_inside_always : AreOneWay F → (place : ℕ) (note : Note P) → slice_get v.notes place ≡ Some note → note.part ≡ None
+  pub empty_inside_always : AreOneWay F → (place : ℕ) (note : Note P O R) → slice_get v.notes place ≡ Some note → note.part ≡ None
       → (o i p : ℕ) → IsInside v.visitor.place o i → note.cell ≡ cell_of o i p → p < F.procs
       → (declaration layout : L) → slice_get declared o ≡ Some declaration → F.object_of layout ≡ F.object_of declaration → v.layout ≡ Some (F.tag_of layout)
       → p < cells_of (F.tag_of layout) F.procs → Always F declared id v (λ s. IsPart F declared s note.cell (Some ((F.ways_of layout).empty F.procs p)))
   empty_inside_always one_way place note e none o i p inside named lt declaration layout declares kind tag within' table r at =
       empty_inside F laws declared table r id v at one_way place note e none o i p inside named lt declaration layout declares kind tag within'
 
-  pub empty_moved_always : AreOneWay F → (place : ℕ) (note : Note P) → slice_get v.notes place ≡ Some note → note.part ≡ None
+  pub empty_moved_always : AreOneWay F → (place : ℕ) (note : Note P O R) → slice_get v.notes place ≡ Some note → note.part ≡ None
       → (o p : ℕ) → v.visitor.swap ≡ Moved o → v.handed ≡ None → note.cell ≡ cell_of o (incarnation_in (word_begun v.last)) p → p < F.procs
       → (declaration layout : L) → slice_get declared o ≡ Some declaration → F.object_of layout ≡ F.object_of declaration → F.tag_of layout ≡ layout_in (word_begun v.last)
       → p < cells_of (F.tag_of layout) F.procs → Always F declared id v (λ s. IsPart F declared s note.cell (Some ((F.ways_of layout).empty F.procs p)))

@@ -47,8 +47,8 @@ free_word k word begun fits clear is layout incarnation =
     unmoved : word ≡ k.count + 2 ^ 24 * (0 + 2 * 0 + 4 * 0 + 8 * 0) + 2 ^ 28 * k.layout + 2 ^ 32 * k.incarnation → k.count ≤ 16 → word / 2 ^ 26 % 2 ≡ 0
     unmoved same few = omega (arith, same, few)
 
-module _ {S L P : Type 0} (F : Layouts S L P) (declared : List L) (id : ℕ) (v : PassView P)
-    (table : State (Slot P) (View P)) (r : Rule F declared table) (at : get_elem? table.views id ≡ some (Crew (v ∷ [])))
+module _ {S L P O R : Type 0} (F : Layouts S L P O R) (declared : List L) (id : ℕ) (v : PassView P O R)
+    (table : State (Slot P O R) (View P O R)) (r : Rule F declared table) (at : get_elem? table.views id ≡ some (Crew (v ∷ [])))
     (opened : v.visitor.swap ≡ Opened (object_swapped v)) (unturned : v.turned ≡ false) where
   abbrev s : Phases
   s = r.state.phases
@@ -85,7 +85,7 @@ module _ {S L P : Type 0} (F : Layouts S L P) (declared : List L) (id : ℕ) (v 
       (cleared_value k (get_or table.words (object_word o) 0) fits (r.shows.objects o k (slice_get-get_or s.objects o fresh_object there)).word)
       (knows.phases.swap.layout_begun o (ap named_by opened) unturned) (knows.phases.swap.begun o (ap named_by opened) unturned)
 
-pub clear_finds : {S L P : Type 0} (F : Layouts S L P) (declared : List L) (id : ℕ) (v : PassView P)
+pub clear_finds : {S L P O R : Type 0} (F : Layouts S L P O R) (declared : List L) (id : ℕ) (v : PassView P O R)
     → Finds F declared (object_word (object_swapped v)) ClearFound id v
 clear_finds F declared id v table r at opened unturned =
     subst (λ (swap : SwapAt). IsRestored (word_begun v.last) (clears swap (get_or table.words (object_word (object_swapped v)) 0)))

@@ -15,13 +15,13 @@ use Rattle.k42_board.proofs.Moves.{Moves, Finds, seat_allowed, seat_allowed_with
 use Rattle.k42_board.proofs.OnePass.{with_pass}
 
 -- of this pass it tells the same
-module _ {P : Type 0} (changed again : ℕ → PassView P → PassView P) {v : PassView P} (same : (found : ℕ) → changed found v ≡ again found v) where
-  pub retold : (me after : Seated P) → IsSeatOf me v → (step : Step (Slot P)) (found : ℕ) → Tells again step me found after → Tells changed step me found after
+module _ {P O R : Type 0} (changed again : ℕ → PassView P O R → PassView P O R) {v : PassView P O R} (same : (found : ℕ) → changed found v ≡ again found v) where
+  pub retold : (me after : Seated P O R) → IsSeatOf me v → (step : Step (Slot P O R)) (found : ℕ) → Tells again step me found after → Tells changed step me found after
   retold me after is step found told =
-      told ∙ ap (λ (m : Seated P). (on_pass (again found) m.0, m.1)) is ∙ ap (λ w. (Crew (w ∷ []), [])) (sym (same found))
-      ∙ sym (ap (λ (m : Seated P). (on_pass (changed found) m.0, m.1)) is)
+      told ∙ ap (λ (m : Seated P O R). (on_pass (again found) m.0, m.1)) is ∙ ap (λ w. (Crew (w ∷ []), [])) (sym (same found))
+      ∙ sym (ap (λ (m : Seated P O R). (on_pass (changed found) m.0, m.1)) is)
 
-  module _ {S L : Type 0} {F : Layouts S L P} {declared : List L} {event : Event L} {word : ℕ} {new : ℕ → ℕ} {id : ℕ}
+  module _ {S L : Type 0} {F : Layouts S L P O R} {declared : List L} {event : Event L O R} {word : ℕ} {new : ℕ → ℕ} {id : ℕ}
       (moves : Moves F declared event word new changed id v) where
     moves_again : Moves F declared event word new again id v
     moves_again = record {
@@ -33,13 +33,13 @@ module _ {P : Type 0} (changed again : ℕ → PassView P → PassView P) {v : P
     }
 
     -- at the word that the step names
-    pub retold_allowed : {callers : ℕ} (me : Seated P) → IsSeatOf me v → (at : ℕ) → at ≡ word → (slots : ℕ) (step : Step (Slot P))
+    pub retold_allowed : {callers : ℕ} (me : Seated P O R) → IsSeatOf me v → (at : ℕ) → at ≡ word → (slots : ℕ) (step : Step (Slot P O R))
         → Allows (Ruled F declared callers) slots id me at new (Tells again step me)
     retold_allowed {callers} me is at there slots step =
         subst (λ z. Allows (Ruled F declared callers) slots id me z new (Tells again step me)) (sym there) (seat_allowed moves_again me is slots step)
 
-    pub retold_allowed_with : (Facts : PassView P → ℕ → Type 0) → Finds F declared word Facts id v → {callers : ℕ} (me : Seated P) → IsSeatOf me v
-        → (at : ℕ) → at ≡ word → (slots : ℕ) (step : Step (Slot P))
+    pub retold_allowed_with : (Facts : PassView P O R → ℕ → Type 0) → Finds F declared word Facts id v → {callers : ℕ} (me : Seated P O R) → IsSeatOf me v
+        → (at : ℕ) → at ≡ word → (slots : ℕ) (step : Step (Slot P O R))
         → Allows (Ruled F declared callers) slots id me at new (TellsWith again Facts step me)
     retold_allowed_with Facts finds {callers} me is at there slots step =
         subst (λ z. Allows (Ruled F declared callers) slots id me z new (TellsWith again Facts step me)) (sym there)

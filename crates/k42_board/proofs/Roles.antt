@@ -107,8 +107,8 @@ module _ (s : Phases) (sound : phases.IsSound s) where
       (lt, rw clear (le-leb (object_at s o).incarnation (object_at s o).incarnation (le_refl (object_at s o).incarnation)))
   own_fits c o swap there is takes named = absurd (cc)
 
-module _ {S L P : Type 0} (F : Layouts S L P) (laws : AreLaws F) (declared : List L)
-    (table : State (Slot P) (View P)) (r : Rule F declared table) (id : ℕ) (v : PassView P)
+module _ {S L P O R : Type 0} (F : Layouts S L P O R) (laws : AreLaws F) (declared : List L)
+    (table : State (Slot P O R) (View P O R)) (r : Rule F declared table) (id : ℕ) (v : PassView P O R)
     (at : get_elem? table.views id ≡ some (Crew (v ∷ []))) (may : MayTakeRole v) where
   abbrev s : Generations
   s = r.state.phases.turns
@@ -263,7 +263,7 @@ module _ {S L P : Type 0} (F : Layouts S L P) (laws : AreLaws F) (declared : Lis
   more : sum counts.graces ≡ sum r.beside.counts.graces + 1
   more = one_more r.beside.counts.graces c v.graces c_begun knows.generations.graces
 
-  abbrev taken : PassView P
+  abbrev taken : PassView P O R
   taken = record v {
     turn = role_taken v.turn;
     visitor = role_taken_with v.visitor (notes_due v);
@@ -272,7 +272,7 @@ module _ {S L P : Type 0} (F : Layouts S L P) (laws : AreLaws F) (declared : Lis
     granted = length v.rows;
   }
 
-  abbrev w : PassView P
+  abbrev w : PassView P O R
   w = took steps.TakeRole role_word found taken
 
   -- what the pass has taken then
@@ -407,12 +407,12 @@ module _ {S L P : Type 0} (F : Layouts S L P) (laws : AreLaws F) (declared : Lis
         let few = sound.in_course.limits.few_callers in
         omega (arith, held, lt, few)
 
-pub role_moves : {S L P : Type 0} (F : Layouts S L P) → AreLaws F → (declared : List L) (id : ℕ) (v : PassView P) → MayTakeRole v
+pub role_moves : {S L P O R : Type 0} (F : Layouts S L P O R) → AreLaws F → (declared : List L) (id : ℕ) (v : PassView P O R) → MayTakeRole v
     → Moves F declared (AtPhases (TakeRoleWith v.number (pairs_from 0 (notes_due v)))) role_word (λ word. cond (eqb word 0) (v.number + 1) word)
     (λ found v. took steps.TakeRole role_word found (role_view found v)) id v
 role_moves F laws declared id v may = record { from = λ table r at. takes_or_not F laws declared table r id v at may }
 
-pub role_finds : {S L P : Type 0} (F : Layouts S L P) → AreLaws F → (declared : List L) (id : ℕ) (v : PassView P) → MayTakeRole v
+pub role_finds : {S L P O R : Type 0} (F : Layouts S L P O R) → AreLaws F → (declared : List L) (id : ℕ) (v : PassView P O R) → MayTakeRole v
     → Finds F declared role_word RoleFound id v
 role_finds F laws declared id v may table r at = role_found F laws declared table r id v at may
 
@@ -420,8 +420,8 @@ either_is : (b : Bool) (new word : ℕ) → either b new word ≡ cond b new wor
 either_is true new word = refl
 either_is false new word = refl
 
-pub role_allowed : {S L P : Type 0} (F : Layouts S L P) → AreLaws F → (declared : List L) (id callers : ℕ) (v : PassView P) (me : Seated P) → IsSeatOf me v
-    → MayTakeRole v → (number : ℕ) → v.number ≡ number → (slots : ℕ) (step : Step (Slot P))
+pub role_allowed : {S L P O R : Type 0} (F : Layouts S L P O R) → AreLaws F → (declared : List L) (id callers : ℕ) (v : PassView P O R) (me : Seated P O R) → IsSeatOf me v
+    → MayTakeRole v → (number : ℕ) → v.number ≡ number → (slots : ℕ) (step : Step (Slot P O R))
     → Allows (Ruled F declared callers) slots id me role_word (λ n. either (eqb n 0) (number + 1) n) (TellsWith (λ found v. took steps.TakeRole role_word found (role_view found v)) RoleFound step me)
 role_allowed F laws declared id callers v me is may number same slots step =
     subst (λ (f : ℕ → ℕ). Allows (Ruled F declared callers) slots id me role_word f (TellsWith (λ found v. took steps.TakeRole role_word found (role_view found v)) RoleFound step me))

@@ -39,13 +39,13 @@ made_at f first (suc many) zero a e = (sym (same_Some (f first) a e) ∙ ap f (o
 made_at f first (suc many) (suc k) a e =
     let rest = made_at f (suc first) many k a e in let lt = rest.1 in (rest.0 ∙ ap f (omega arith), omega (arith, lt))
 
-number_at : {P : Type 0} (contents : List (Content P)) (k : ℕ) (content : Content P) → slice_get contents k ≡ Some content → slice_get (numbers_of contents) k ≡ Some content.number
+number_at : {P O R : Type 0} (contents : List (Content P O R)) (k : ℕ) (content : Content P O R) → slice_get contents k ≡ Some content → slice_get (numbers_of contents) k ≡ Some content.number
 number_at [] k content e = absurd (cc)
-number_at (first ∷ contents) zero content e = ap (λ (x : Content _). Some x.number) (same_Some first content e)
+number_at {O} {R} (first ∷ contents) zero content e = ap (λ (x : Content _ O R). Some x.number) (same_Some first content e)
 number_at (first ∷ contents) (suc k) content e = number_at contents k content e
 
 -- the cell that stands at a place of a row's cells has that place
-pub place_in_row : {P : Type 0} (contents : List (Content P)) (procs o i : ℕ) → numbers_of contents ≡ row_cells procs o i → procs ≤ 8 → (k : ℕ) (content : Content P)
+pub place_in_row : {P O R : Type 0} (contents : List (Content P O R)) (procs o i : ℕ) → numbers_of contents ≡ row_cells procs o i → procs ≤ 8 → (k : ℕ) (content : Content P O R)
     → slice_get contents k ≡ Some content → (content.number ≡ cell_of o i k) × (k < procs) × (place_of content.number ≡ k)
 place_in_row contents procs o i are few k content e =
     let at = made_at (cell_of o i) 0 procs k content.number (ap (λ xs. slice_get xs k) (sym are) ∙ number_at contents k content e) in
@@ -101,15 +101,15 @@ part_within (part ∷ parts) (suc p) d e = let rest = part_within parts p d e in
 
 -- what is due
 
-pub due_self : {S P : Type 0} (ways : Ways S P) (procs place : ℕ) (part : Option P) → HasDue ways procs place part part
+pub due_self : {S P O R : Type 0} (ways : Ways S P O R) (procs place : ℕ) (part : Option P) → HasDue ways procs place part part
 due_self ways procs place None = tt
 due_self ways procs place (Some part) = refl
 
-pub due_value : {S P : Type 0} (ways : Ways S P) (procs place : ℕ) (own : Option P) (d : P) → HasDue ways procs place own (Some d) → unwrap_or own (ways.empty procs place) ≡ d
+pub due_value : {S P O R : Type 0} (ways : Ways S P O R) (procs place : ℕ) (own : Option P) (d : P) → HasDue ways procs place own (Some d) → unwrap_or own (ways.empty procs place) ≡ d
 due_value ways procs place None d due = sym due
 due_value ways procs place (Some own) d due = due
 
-pub due_none : {S P : Type 0} (ways : Ways S P) (procs place : ℕ) (own : Option P) → HasDue ways procs place own None → own ≡ None
+pub due_none : {S P O R : Type 0} (ways : Ways S P O R) (procs place : ℕ) (own : Option P) → HasDue ways procs place own None → own ≡ None
 due_none ways procs place None due = refl
 due_none ways procs place (Some own) due = absurd due
 

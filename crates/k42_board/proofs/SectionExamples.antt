@@ -1,6 +1,8 @@
 -- Computed: what a pass keeps whose entries sections take, and how a skip raises its clock.
 use Rattle.std.proofs.Common.{◌≡◌, ℕ, zero, suc, ◌<◌, ◌≤◌, [], ◌∷◌, refl, subst, arith}
 use Rattle.std.proofs.lemmas.Option.{same_Some}
+use Rattle.k42_kinds.specs.declared.operation.Op.{Op}
+use Rattle.k42_kinds.specs.declared.operation.Reply.{Reply}
 use Rattle.k42_kinds.specs.declared.entry.Act.TheVariants.{Swap}
 use Rattle.k42_kinds.specs.declared.entry.Answer.TheVariants.{Gone}
 use Rattle.k42_kinds.specs.declared.entry.Entry.{Entry}
@@ -41,13 +43,13 @@ all_kept = refl
 
 -- an entry that is left is later than the section, and the last that was given may have its stamp
 
-abbrev stamped : ℕ → Entry
+abbrev stamped : ℕ → Entry Op Reply
 stamped stamp = line stamp 0 0 0 (Swap Dead) Gone
 
 abbrev after_one : Keeping
 after_one = record { what = Sections; given = 1; since = 4 }
 
-only : (P : Entry → Type 0) (entry : Entry) → P entry → EachPlace (λ place x. P x) (entry ∷ [])
+only : (P : Entry Op Reply → Type 0) (entry : Entry Op Reply) → P entry → EachPlace (λ place x. P x) (entry ∷ [])
 only P entry is zero x e = subst P (same_Some entry x e) is
 only P entry is (suc place) x e = absurd (cc)
 
@@ -61,15 +63,15 @@ parted = record {
 not_later : IsParted after_one (stamped 3 ∷ stamped 4 ∷ []) → ⊥
 not_later is = let left = is.left 0 (stamped 4) refl in omega (arith, left)
 
-none_there : IsParted after_one [] → ⊥
+none_there : IsParted {O = Op} {R = Reply} after_one [] → ⊥
 none_there is = let few = is.few in omega (arith, few)
 
 -- a new pass, and one that has drawn alone
 
-abbrev new : PassView ℕ
+abbrev new : PassView ℕ Op Reply
 new = new_pass 1 1 0 0
 
-abbrev late : PassView ℕ
+abbrev late : PassView ℕ Op Reply
 late = alone_view (stamped 3) new
 
 first_stamp : stamp_next new [] ≡ 1

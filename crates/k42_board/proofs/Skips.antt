@@ -33,16 +33,16 @@ use Rattle.k42_board.proofs.Dealing.{at_end}
 use Rattle.k42_board.proofs.OnePass.{with_pass, known, moved}
 use Rattle.k42_board.proofs.KnownStamps.{known_after}
 
-module _ {S L P : Type 0} (F : Layouts S L P) (declared : List L) (callers id : ℕ) (v : PassView P) where
-  pub clock_known : (table : State (Slot P) (View P)) (r : Rule F declared table) → get_elem? table.views id ≡ some (Crew (v ∷ []))
+module _ {S L P O R : Type 0} (F : Layouts S L P O R) (declared : List L) (callers id : ℕ) (v : PassView P O R) where
+  pub clock_known : (table : State (Slot P O R) (View P O R)) (r : Rule F declared table) → get_elem? table.views id ≡ some (Crew (v ∷ []))
       → is_known r.state.turns v.taker.clock ≡ true
   clock_known table r at =
       let k = known F declared table r id v at in
       let many = r.sound.cells.locks.many.callers in
-      list_any_at (λ (x : Caller). nat_le v.taker.clock x.clock) r.state.turns.callers v.number fresh_caller (let lt = k.there in omega (arith, many, lt))
-      (let same = ap (λ (x : Caller). x.clock) k.cells.taker in grind (arith, nat_tests, same))
+      list_any_at (λ (x : Caller O R). nat_le v.taker.clock x.clock) r.state.turns.callers v.number fresh_caller (let lt = k.there in omega (arith, many, lt))
+      (let same = ap (λ (x : Caller O R). x.clock) k.cells.taker in grind (arith, nat_tests, same))
 
-  parted : (table : State (Slot P) (View P)) → get_elem? table.views id ≡ some (Crew (v ∷ [])) → (r : Rule F declared table)
+  parted : (table : State (Slot P O R) (View P O R)) → get_elem? table.views id ≡ some (Crew (v ∷ [])) → (r : Rule F declared table)
       → (after : Rule F declared (record { words = table.words; homes = table.homes; views = set table.views id (Crew (v ∷ [])) ++ Drew v.taker.clock ∷ [] })) × (after.state ≡ r.state)
   parted table at r = (
     record {
@@ -64,7 +64,7 @@ module _ {S L P : Type 0} (F : Layouts S L P) (declared : List L) (callers id : 
           (λ new. subst (Knows F.tag_of r.state r.beside j) new.1 (clock_known table r at))
           (λ old.
           ⊎_elim
-          (λ here. subst (λ (z : ℕ × View P). Knows F.tag_of r.state r.beside z.0 z.1) (λ i. (sym here.0 i, here.1 i)) (r.seats id (Crew (v ∷ [])) at))
+          (λ here. subst (λ (z : ℕ × View P O R). Knows F.tag_of r.state r.beside z.0 z.1) (λ i. (sym here.0 i, here.1 i)) (r.seats id (Crew (v ∷ [])) at))
           (λ else. r.seats j view else.1)
           (at_set table.views id j (Crew (v ∷ [])) view old))
           (at_end (set table.views id (Crew (v ∷ []))) (Drew v.taker.clock) view j e);
@@ -72,15 +72,15 @@ module _ {S L P : Type 0} (F : Layouts S L P) (declared : List L) (callers id : 
     refl,
   )
 
-  pub clock_splits : (view : View P) → view ≡ Crew (v ∷ []) → Splits (Ruled F declared callers) id view view (clock_told view)
+  pub clock_splits : (view : View P O R) → view ≡ Crew (v ∷ []) → Splits (Ruled F declared callers) id view view (clock_told view)
   clock_splits view same =
-      subst (λ (z : View P). Splits (Ruled F declared callers) id z z (clock_told z)) (sym same)
+      subst (λ (z : View P O R). Splits (Ruled F declared callers) id z z (clock_told z)) (sym same)
       (λ table r at. let after = parted table at r.rule in record { rule = after.0; many = ap many_callers after.1 ∙ r.many })
 
-module _ {S L P : Type 0} (F : Layouts S L P) (laws : AreLaws F) (declared : List L) (stamp : ℕ)
-    (table : State (Slot P) (View P)) (r : Rule F declared table) (id : ℕ) (v : PassView P)
+module _ {S L P O R : Type 0} (F : Layouts S L P O R) (laws : AreLaws F) (declared : List L) (stamp : ℕ)
+    (table : State (Slot P O R) (View P O R)) (r : Rule F declared table) (id : ℕ) (v : PassView P O R)
     (at : get_elem? table.views id ≡ some (Crew (v ∷ []))) (drawn : is_known r.state.turns stamp ≡ true) where
-  abbrev s : Joined L
+  abbrev s : Joined L O R
   s = r.state
 
   abbrev c : ℕ
@@ -95,7 +95,7 @@ module _ {S L P : Type 0} (F : Layouts S L P) (laws : AreLaws F) (declared : Lis
   possible : IsPossible F declared s (AtCells (Skip c stamp))
   possible = record { caller = k.there; may = record { core = drawn; beside = tt } }
 
-  abbrev t : Turns
+  abbrev t : Turns O R
   t = turns.effect s.turns (Skip c stamp)
 
   leaves : LeavesCells F declared table r id v at t s.kept r.beside.contents
@@ -168,7 +168,7 @@ module _ {S L P : Type 0} (F : Layouts S L P) (laws : AreLaws F) (declared : Lis
         many_words = r.shows.many_words;
         many_slots = r.shows.many_slots;
         few_objects = r.shows.few_objects;
-        few_entries = EachPlace-set (λ d (x : Caller). length x.mine ≤ PASS_ENTRIES) s.turns.callers c (caller_skipped stamp (caller_at s.turns c)) r.shows.few_entries
+        few_entries = EachPlace-set (λ d (x : Caller O R). length x.mine ≤ PASS_ENTRIES) s.turns.callers c (caller_skipped stamp (caller_at s.turns c)) r.shows.few_entries
             (r.shows.few_entries c (caller_at s.turns c) (slice_get-get_or s.turns.callers c fresh_caller c_there));
         generations = r.shows.generations;
         objects = r.shows.objects;
@@ -178,9 +178,9 @@ module _ {S L P : Type 0} (F : Layouts S L P) (laws : AreLaws F) (declared : Lis
       pass_after
 
 -- the seat that told of the stamp is spent
-module _ {S L P : Type 0} (F : Layouts S L P) (laws : AreLaws F) (declared : List L) (callers id other stamp : ℕ) (v : PassView P) where
+module _ {S L P O R : Type 0} (F : Layouts S L P O R) (laws : AreLaws F) (declared : List L) (callers id other stamp : ℕ) (v : PassView P O R) where
   -- so the table shows the state after the event, which was possible
-  pub skip_shown : (table : State (Slot P) (View P)) (r : Rule F declared table) → get_elem? table.views id ≡ some (Crew (v ∷ [])) → get_elem? table.views other ≡ some (Drew stamp)
+  pub skip_shown : (table : State (Slot P O R) (View P O R)) (r : Rule F declared table) → get_elem? table.views id ≡ some (Crew (v ∷ [])) → get_elem? table.views other ≡ some (Drew stamp)
       → (after : Rule F declared (record { words = table.words; homes = table.homes; views = set (set table.views id (Crew (skipped_view stamp v ∷ []))) other Spent }))
       × (after.state ≡ effect r.state (AtCells (Skip v.number stamp))) × IsPossible F declared r.state (AtCells (Skip v.number stamp))
   skip_shown table r at here =
@@ -216,6 +216,6 @@ module _ {S L P : Type 0} (F : Layouts S L P) (laws : AreLaws F) (declared : Lis
       let shown = skip_shown table r.rule at here in
       record { rule = shown.0; many = ap many_callers shown.1 ∙ r.many }
 
-  pub skip_joins : (view told : View P) → view ≡ Crew (v ∷ []) → told ≡ Drew stamp → Joins (Ruled F declared callers) id view other told (skipping view told) Spent
+  pub skip_joins : (view told : View P O R) → view ≡ Crew (v ∷ []) → told ≡ Drew stamp → Joins (Ruled F declared callers) id view other told (skipping view told) Spent
   skip_joins view told same is =
-      subst (λ (z : View P × View P). Joins (Ruled F declared callers) id z.0 other z.1 (skipping z.0 z.1) Spent) (λ i. (sym same i, sym is i)) joined
+      subst (λ (z : View P O R × View P O R). Joins (Ruled F declared callers) id z.0 other z.1 (skipping z.0 z.1) Spent) (λ i. (sym same i, sym is i)) joined

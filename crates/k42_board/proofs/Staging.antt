@@ -45,7 +45,7 @@ use Rattle.k42_board.proofs.AtTables.{visited, told, GoesOn, IsUndisturbed, IsSa
 use Rattle.k42_board.proofs.OnePass.{known}
 
 -- what becomes of an object, of which the state is so
-pub record IsStaged {L : Type 0} (s : Joined L) (o : ℕ) (k' : Object) : Type 0 where
+pub record IsStaged {L O R : Type 0} (s : Joined L O R) (o : ℕ) (k' : Object) : Type 0 where
   pub freed : k'.freed ≡ (object_at s.phases o).freed
   pub old :
       (i : ℕ) → i < (object_at s.phases o).incarnation
@@ -65,7 +65,7 @@ pub record StaysInRow (k k' : Object) : Type 0 where
   pub freed : k'.freed ≡ k.freed
   pub complete : k'.complete ≡ true → k.complete ≡ true
 
-pub stays_staged : {L : Type 0} (s : Joined L) (o : ℕ) (k' : Object) → StaysInRow (object_at s.phases o) k' → IsStaged s o k'
+pub stays_staged : {L O R : Type 0} (s : Joined L O R) (o : ℕ) (k' : Object) → StaysInRow (object_at s.phases o) k' → IsStaged s o k'
 stays_staged s o k' stays = record {
   freed = stays.freed;
   old = λ i lt ended. (rw stays.incarnation lt, λ done. rw stays.incarnation (ended (stays.complete done)));
@@ -75,7 +75,7 @@ stays_staged s o k' stays = record {
 }
 
 -- what is true of an object that is over
-over_is : (k : Object) (i : ℕ) (answer : Answer) → tells_over answer ≡ true → IsTrueOf k i answer → is_over k ≡ true
+over_is : {R : Type 0} (k : Object) (i : ℕ) (answer : Answer R) → tells_over answer ≡ true → IsTrueOf k i answer → is_over k ≡ true
 over_is k i Spent tells is = rw (eq-eqb k.incarnation LAST_INCARNATION is.1) (or_true (eqb k.layout 2)) where
   or_true : (b : Bool) → b || true ≡ true
   or_true true = refl
@@ -83,8 +83,8 @@ over_is k i Spent tells is = rw (eq-eqb k.incarnation LAST_INCARNATION is.1) (or
 over_is k i Gone tells is = rw (eq-eqb k.layout 2 is.1) refl
 over_is k i answer tells is = absurd (cc)
 
-module _ {S L P : Type 0} (F : Layouts S L P) (laws : AreLaws F) (declared : List L)
-    (table : State (Slot P) (View P)) (r : Rule F declared table) (id : ℕ) (v : PassView P)
+module _ {S L P O R : Type 0} (F : Layouts S L P O R) (laws : AreLaws F) (declared : List L)
+    (table : State (Slot P O R) (View P O R)) (r : Rule F declared table) (id : ℕ) (v : PassView P O R)
     (at : get_elem? table.views id ≡ some (Crew (v ∷ []))) where
   abbrev s : Phases
   s = r.state.phases
@@ -108,7 +108,7 @@ module _ {S L P : Type 0} (F : Layouts S L P) (laws : AreLaws F) (declared : Lis
   stage_is = ap (λ (z : Visitor). z.swap) knows.phases.visitor
 
   -- what any pass has found of an object that is over
-  found_over : (j : ℕ) (y : PassView P) → KnowsPass F.tag_of r.state r.beside j y → (answer : Answer) → y.found ≡ Some answer → tells_over answer ≡ true
+  found_over : (j : ℕ) (y : PassView P O R) → KnowsPass F.tag_of r.state r.beside j y → (answer : Answer R) → y.found ≡ Some answer → tells_over answer ≡ true
       → is_over (object_at s (object_begun y.last)) ≡ true
   found_over j y was answer e tells = by_last y.last refl where
     by_last : (last : Option LastBegin) → y.last ≡ last → is_over (object_at s (object_begun last)) ≡ true
@@ -118,7 +118,7 @@ module _ {S L P : Type 0} (F : Layouts S L P) (laws : AreLaws F) (declared : Lis
         let kept = was.trace.kept in
         over_is (object_at s begin.object) (object_at s begin.object).incarnation answer tells
         ((r.sound.answers y.number was.there).found begin.object answer
-        (ap (λ (z : Kept). z.begun) kept ∙ ap begun_of is) (ap (λ (z : Kept). z.found) kept ∙ e)).over
+        (ap (λ (z : Kept R). z.begun) kept ∙ ap begun_of is) (ap (λ (z : Kept R). z.found) kept ∙ e)).over
 
   module _ (named : named_by v.visitor.swap ≡ Some o) where
     pub there : o < length s.objects
@@ -130,7 +130,7 @@ module _ {S L P : Type 0} (F : Layouts S L P) (laws : AreLaws F) (declared : Lis
     few = let lt = there in let few' = r.shows.few_objects in omega (arith, lt, few')
 
     -- nobody else swaps the object
-    pub alone : (j : ℕ) (y : PassView P) → y.number ≢ c → KnowsPass F.tag_of r.state r.beside j y → named_by y.visitor.swap ≡ Some o → ⊥
+    pub alone : (j : ℕ) (y : PassView P O R) → y.number ≢ c → KnowsPass F.tag_of r.state r.beside j y → named_by y.visitor.swap ≡ Some o → ⊥
     alone j y not was names =
         not ((one_swap s r.sound.phases o there).one y.number c was.there knows.there
         (ap (λ (z : Visitor). named_by z.swap) was.phases.visitor ∙ names) (ap named_by stage_is ∙ named))
@@ -145,7 +145,7 @@ module _ {S L P : Type 0} (F : Layouts S L P) (laws : AreLaws F) (declared : Lis
     swap_is_set = (one_swap s r.sound.phases o there).set c knows.there (ap named_by stage_is ∙ named)
 
     -- the state with it at another stage, and its object changed
-    pub staged_effect : (stage : ℕ → SwapAt) (change : Object → Object) (kept : List Kept)
+    pub staged_effect : (stage : ℕ → SwapAt) (change : Object → Object) (kept : List (Kept R))
         → visited r.state (set s.objects o (change k)) (set s.callers c (at_stage v.visitor (stage o))) kept
         ≡ record r.state {
           phases =
@@ -158,7 +158,7 @@ module _ {S L P : Type 0} (F : Layouts S L P) (laws : AreLaws F) (declared : Lis
         visited r.state (set s.objects (object_named z.swap) (change (object_at s (object_named z.swap)))) (set s.callers c (at_stage z (stage (object_named z.swap)))) kept)
         (sym knows.phases.visitor)
 
-    module _ (e : Event) (k' : Object) (kept : List Kept) (swap' : SwapAt) where
+    module _ (e : Event) (k' : Object) (kept : List (Kept R)) (swap' : SwapAt) where
       abbrev pub stage_after : Visitor
       stage_after = at_stage v.visitor swap'
 
@@ -168,7 +168,7 @@ module _ {S L P : Type 0} (F : Layouts S L P) (laws : AreLaws F) (declared : Lis
       abbrev callers_after : List Visitor
       callers_after = set s.callers c stage_after
 
-      abbrev pub staged_state : Joined L
+      abbrev pub staged_state : Joined L O R
       staged_state = visited r.state objects_after callers_after kept
 
       pub object_is : object_at staged_state.phases o ≡ k'
@@ -201,7 +201,7 @@ module _ {S L P : Type 0} (F : Layouts S L P) (laws : AreLaws F) (declared : Lis
             by_object (λ q l. (span_at spans q).0 < (span_at spans q).1 → l.incarnation ≡ (object_at s q).incarnation)
             (λ some. staged.freeing d lt (subst (λ z. (span_at z o).0 < (span_at z o).1) (sym is) some)) (λ q not some. refl)
 
-        over_stays : (j : ℕ) (y : PassView P) → KnowsPass F.tag_of r.state r.beside j y → (answer : Answer) → y.found ≡ Some answer → tells_over answer ≡ true
+        over_stays : (j : ℕ) (y : PassView P O R) → KnowsPass F.tag_of r.state r.beside j y → (answer : Answer R) → y.found ≡ Some answer → tells_over answer ≡ true
             → (object_at staged_state.phases (object_begun y.last)).incarnation ≡ (object_at s (object_begun y.last)).incarnation
         over_stays j y was answer e tells =
             by_object (λ q l. is_over (object_at s q) ≡ true → l.incarnation ≡ (object_at s q).incarnation) staged.over (λ q not over. refl)
@@ -213,7 +213,7 @@ module _ {S L P : Type 0} (F : Layouts S L P) (laws : AreLaws F) (declared : Lis
             by_object (λ q l. (i : ℕ) → IsInside (visitor_at s d).place q i → l.layout ≡ (object_at s q).layout)
             (λ i inside. staged.inside d i lt inside) (λ q not i inside. refl)
 
-        left : (j : ℕ) (y : PassView P) → y.number ≢ c → KnowsPass F.tag_of r.state r.beside j y → IsUndisturbed r.state staged_state y
+        left : (j : ℕ) (y : PassView P O R) → y.number ≢ c → KnowsPass F.tag_of r.state r.beside j y → IsUndisturbed r.state staged_state y
         left j y not was = record {
           place = λ q i inside. inside_stays y.number was.there q i (subst (λ (z : Visitor). IsInside z.place q i) (sym was.phases.visitor) inside);
           swap =
@@ -229,7 +229,7 @@ module _ {S L P : Type 0} (F : Layouts S L P) (laws : AreLaws F) (declared : Lis
 
         -- what the pass knows then
         module _ (abandoned turned : Bool) (handed : Option ℕ) (rows : List Row) where
-          abbrev pub staged_view : PassView P
+          abbrev pub staged_view : PassView P O R
           staged_view = told v stage_after v.last v.found abandoned turned v.layout handed rows
 
           -- of an object that it swaps on

@@ -51,7 +51,7 @@ words_more {L} tag_of layouts o layout words i new small here place is first = r
       ∙ first.blank j (λ q lt. apart q (omega (arith, lt)));
 }
 
-pub slots_more : {P : Type 0} (slots : List (Slot P)) (n : ℕ) (c : Content P) → length slots ≡ n → IsCell (number_in n) [] false None c
+pub slots_more : {P O R : Type 0} (slots : List (Slot P O R)) (n : ℕ) (c : Content P O R) → length slots ≡ n → IsCell (number_in n) [] false None c
     → AreFirstSlots slots → AreFirstSlots (slots ++ Some c ∷ [])
 slots_more {P} slots n c many is first place slot e =
     ⊎_elim
@@ -59,39 +59,39 @@ slots_more {P} slots n c many is first place slot e =
     (λ new. (c, sym new.1, subst (λ m. IsCell m [] false None c) (ap number_in (sym (new.0 ∙ many))) is))
     (at_push slots (Some c) place slot e)
 
-pub dealer_next : {P : Type 0} (procs objects n : ℕ) (homes : List ℕ) → n < length homes
-    → dealer (Crew (new_passes {P = P} procs objects n (drop n homes))) ≡ Crew (new_passes procs objects (n + 1) (drop (n + 1) homes))
-dealer_next {P} procs objects n homes lt =
-    ap (λ (l : List ℕ). dealer (Crew (new_passes {P = P} procs objects n l))) (drop_at homes n (get_or homes n 0) (slice_get-get_or homes n 0 lt))
+pub dealer_next : {P O R : Type 0} (procs objects n : ℕ) (homes : List ℕ) → n < length homes
+    → dealer (Crew (new_passes {P = P} {O = O} {R = R} procs objects n (drop n homes))) ≡ Crew (new_passes procs objects (n + 1) (drop (n + 1) homes))
+dealer_next {P} {O} {R} procs objects n homes lt =
+    ap (λ (l : List ℕ). dealer (Crew (new_passes {P = P} {O = O} {R = R} procs objects n l))) (drop_at homes n (get_or homes n 0) (slice_get-get_or homes n 0 lt))
 
-pub deals_more : {P : Type 0} (table : TableId) (queue : QueueId) (keep : Keep) (procs objects : ℕ) (homes : List ℕ) (n : ℕ) (seat seat' : TableId) (me me' : Seated P) (passes : List (PassSeen P)) (pass : PassSeen P)
+pub deals_more : {P O R : Type 0} (table : TableId) (queue : QueueId) (keep : Keep) (procs objects : ℕ) (homes : List ℕ) (n : ℕ) (seat seat' : TableId) (me me' : Seated P O R) (passes : List (PassSeen P O R)) (pass : PassSeen P O R)
     → n < length homes → seat' ≡ seat → me' ≡ (dealer me.0, []) → IsNewPass table queue keep procs objects n (slice_index homes n) pass
     → IsDealing table queue keep procs objects homes n seat me passes → IsDealing table queue keep procs objects homes (n + 1) seat' me' (passes ++ pass ∷ [])
-deals_more {P} table queue keep procs objects homes n seat seat' me me' passes pass lt same moved new h = record {
+deals_more {P} {O} {R} table queue keep procs objects homes n seat seat' me me' passes pass lt same moved new h = record {
   ours = same ∙ h.ours;
-  crew = moved ∙ ap (λ (m : Seated P). (dealer m.0, [])) h.crew ∙ ap (λ (w : View P). (w, [])) (dealer_next procs objects n homes lt);
+  crew = moved ∙ ap (λ (m : Seated P O R). (dealer m.0, [])) h.crew ∙ ap (λ (w : View P O R). (w, [])) (dealer_next procs objects n homes lt);
   many = length-append passes (pass ∷ []) ∙ (let many = h.many in omega (arith, many));
   each = λ c p e.
       ⊎_elim
       (λ old. h.each c p old.1)
-      (λ last. subst (λ (z : ℕ × PassSeen P). IsNewPass table queue keep procs objects z.0 (slice_index homes z.0) z.1) (λ i. (sym (last.0 ∙ h.many) i, last.1 i)) new)
+      (λ last. subst (λ (z : ℕ × PassSeen P O R). IsNewPass table queue keep procs objects z.0 (slice_index homes z.0) z.1) (λ i. (sym (last.0 ∙ h.many) i, last.1 i)) new)
       (at_push passes pass c p e);
 }
 
 -- a new pass is one of its system
-pub is_of_system : {L P : Type 0} (sys : SysSeen L) (number home : ℕ) (pass : PassSeen P) → home < sys.procs
+pub is_of_system : {L P O R : Type 0} (sys : SysSeen L) (number home : ℕ) (pass : PassSeen P O R) → home < sys.procs
     → IsNewPass sys.table sys.queue sys.keep sys.procs (length sys.layouts) number home pass → IsPassOf sys pass
-is_of_system {L} {P} sys number home pass there is = record {
+is_of_system {L} {P} {O} {R} sys number home pass there is = record {
   table = is.ours;
   queue = is.posted;
   keep = ap (λ (k : Keeping). k.what) is.keeps;
   proc = rw is.new there;
-  waits = ap (λ (v : PassView P). length v.turn.waits) is.new ∙ length-replicate sys.procs 0;
-  objects = ap (λ (v : PassView P). length v.visitor.noted) is.new ∙ length-replicate (length sys.layouts) None;
-  spans = ap (λ (v : PassView P). length v.visitor.freeing) is.new ∙ length-replicate (length sys.layouts) (0, 0);
+  waits = ap (λ (v : PassView P O R). length v.turn.waits) is.new ∙ length-replicate sys.procs 0;
+  objects = ap (λ (v : PassView P O R). length v.visitor.noted) is.new ∙ length-replicate (length sys.layouts) None;
+  spans = ap (λ (v : PassView P O R). length v.visitor.freeing) is.new ∙ length-replicate (length sys.layouts) (0, 0);
 }
 
-pub is_started : {L P : Type 0} (layouts : List L) (procs : ℕ) (callers : List ℕ) (sys : SysSeen L) (passes : List (PassSeen P))
+pub is_started : {L P O R : Type 0} (layouts : List L) (procs : ℕ) (callers : List ℕ) (sys : SysSeen L) (passes : List (PassSeen P O R))
     → sys.procs ≡ procs → sys.layouts ≡ layouts → sys.callers ≡ callers → EachPlace (λ c p. p < procs) callers
     → AreDealt sys.table sys.queue sys.keep procs (length layouts) callers passes → IsStarted layouts procs callers sys passes
 is_started layouts procs callers sys passes procs_are layouts_are callers_are placed dealt = record {

@@ -46,7 +46,7 @@ use Rattle.k42_board.proofs.Apart.{IsOfGenerations, objects_stay, cells_stay}
 use Rattle.k42_board.proofs.OnePass.{with_pass, LeavesOthers, moved}
 
 -- the state with these generations and visitors
-abbrev pub turned_to : {L : Type 0} → Joined L → Generations → List Visitor → Joined L
+abbrev pub turned_to : {L O R : Type 0} → Joined L O R → Generations → List Visitor → Joined L O R
 turned_to s g visitors = record s { phases = record s.phases { turns = g; callers = visitors } }
 
 -- and with these counts of what was begun
@@ -55,7 +55,7 @@ with_counts beside counts = record beside { counts = counts }
 
 -- what a step of generations makes of a pass
 abbrev pub turned_pass :
-    {P : Type 0} → PassView P → Caller → Visitor → ℕ → Option ℕ → List Row → ℕ → PassView P
+    {P O R : Type 0} → PassView P O R → Caller → Visitor → ℕ → Option ℕ → List Row → ℕ → PassView P O R
 turned_pass x turn visitor graces base rows granted = record x {
   turn = turn;
   visitor = visitor;
@@ -82,8 +82,8 @@ pub draining_swap : (swap : SwapAt) → IsSameSwap swap (draining_from swap)
 draining_swap (Interposed o) = record { named = refl; turned = λ k. refl; moved = refl }
 draining_swap swap = same_swap swap
 
-module _ {L : Type 0} (s : Joined L) (g : Generations) (visitors : List Visitor) where
-  abbrev pub t : Joined L
+module _ {L O R : Type 0} (s : Joined L O R) (g : Generations) (visitors : List Visitor) where
+  abbrev pub t : Joined L O R
   t = turned_to s g visitors
 
   -- a caller other than the event's
@@ -100,7 +100,7 @@ module _ {L : Type 0} (s : Joined L) (g : Generations) (visitors : List Visitor)
   abbrev pub Rises : Type 0
   Rises = (p : ℕ) → (proc_at s.phases.turns p).generation ≤ (proc_at g p).generation
 
-  pub generations_stay : {P : Type 0} (counts counts' : Counts) (x : PassView P) → IsOther counts counts' x.number
+  pub generations_stay : {P : Type 0} (counts counts' : Counts) (x : PassView P O R) → IsOther counts counts' x.number
       → KnowsGenerations s.phases.turns counts x → KnowsGenerations g counts' x
   generations_stay counts counts' x other knows = record {
     turn = ap in_words other.turn ∙ knows.turn;
@@ -110,9 +110,9 @@ module _ {L : Type 0} (s : Joined L) (g : Generations) (visitors : List Visitor)
         old.2 ∙ knows.base b e busy p old.0 old.1;
   }
 
-  module _ {P : Type 0} (x : PassView P) (turn : Caller) (visitor : Visitor) (graces : ℕ) (base : Option ℕ)
+  module _ {P : Type 0} (x : PassView P O R) (turn : Caller) (visitor : Visitor) (graces : ℕ) (base : Option ℕ)
       (rows : List Row) (granted : ℕ) where
-    abbrev y : PassView P
+    abbrev y : PassView P O R
     y = turned_pass x turn visitor graces base rows granted
 
     swap_goes : IsSameSwap x.visitor.swap visitor.swap → KnowsSwap s.phases x → KnowsSwap t.phases y
@@ -185,7 +185,7 @@ module _ {L : Type 0} (s : Joined L) (g : Generations) (visitors : List Visitor)
       spans = rw freeing knows.spans;
     }
 
-  pub pass_stays : {P : Type 0} (tag_of : L → ℕ) (beside : Beside P) (counts' : Counts) (j : ℕ) (x : PassView P) → length visitors ≡ length s.phases.callers
+  pub pass_stays : {P : Type 0} (tag_of : L → ℕ) (beside : Beside P) (counts' : Counts) (j : ℕ) (x : PassView P O R) → length visitors ≡ length s.phases.callers
       → Rises → IsOther beside.counts counts' x.number → KnowsPass tag_of s beside j x
       → KnowsPass tag_of t (with_counts beside counts') j x
   pass_stays tag_of beside counts' j x many rises other knows =
@@ -203,7 +203,7 @@ module _ {L : Type 0} (s : Joined L) (g : Generations) (visitors : List Visitor)
       })
 
   -- the parts that are due are as before
-  pub part_stays : {S P : Type 0} (F : Layouts S L P) (declared : List L) (n : ℕ) (part : Option P)
+  pub part_stays : {S P : Type 0} (F : Layouts S L P O R) (declared : List L) (n : ℕ) (part : Option P)
       → IsPart F declared s n part → IsPart F declared t n part
   part_stays F declared n part is = record {
     due = λ declaration chain row declares rows here kept.
@@ -215,11 +215,11 @@ module _ {L : Type 0} (s : Joined L) (g : Generations) (visitors : List Visitor)
 pub same_at : {A : Type 0} (xs ys : List A) (i : ℕ) (d : A) → slice_get ys i ≡ slice_get xs i → get_or ys i d ≡ get_or xs i d
 same_at xs ys i d same = sym (unwrap_or-slice_get ys i d) ∙ ap (λ x. unwrap_or x d) same ∙ unwrap_or-slice_get xs i d
 
-module _ {S L P : Type 0} (F : Layouts S L P) (declared : List L)
-    (table : State (Slot P) (View P)) (r : Rule F declared table) (id : ℕ) (v : PassView P)
+module _ {S L P O R : Type 0} (F : Layouts S L P O R) (declared : List L)
+    (table : State (Slot P O R) (View P O R)) (r : Rule F declared table) (id : ℕ) (v : PassView P O R)
     (at : get_elem? table.views id ≡ some (Crew (v ∷ []))) where
   -- a step that leaves the state as it was, and the word that it found
-  pub stayed : (i : ℕ) (w : PassView P) → KnowsPass F.tag_of r.state r.beside id w
+  pub stayed : (i : ℕ) (w : PassView P O R) → KnowsPass F.tag_of r.state r.beside id w
       → (after : Rule F declared (with_pass table (set table.words i (get_or table.words i 0)) table.homes id w)) × (after.state ≡ r.state)
   stayed i w mine =
       subst (λ (words : List ℕ). (after : Rule F declared (with_pass table words table.homes id w)) × (after.state ≡ r.state))
@@ -239,8 +239,8 @@ module _ {S L P : Type 0} (F : Layouts S L P) (declared : List L)
       r.parts
       mine)
 
-module _ {S L P : Type 0} (F : Layouts S L P) (laws : AreLaws F) (declared : List L)
-    (table : State (Slot P) (View P)) (r : Rule F declared table) (id : ℕ) (v : PassView P)
+module _ {S L P O R : Type 0} (F : Layouts S L P O R) (laws : AreLaws F) (declared : List L)
+    (table : State (Slot P O R) (View P O R)) (r : Rule F declared table) (id : ℕ) (v : PassView P O R)
     (at : get_elem? table.views id ≡ some (Crew (v ∷ []))) where
   few_cells : length r.state.turns.cells ≤ 256
   few_cells = let many = r.sound.cells.locks.many.cells in let few = r.shows.few_objects in omega (arith, many, few)
@@ -254,7 +254,7 @@ module _ {S L P : Type 0} (F : Layouts S L P) (laws : AreLaws F) (declared : Lis
     abbrev pub visitors_after : List Visitor
     visitors_after = set r.state.phases.callers v.number x
 
-    abbrev pub state_after : Joined L
+    abbrev pub state_after : Joined L O R
     state_after = turned_to r.state g visitors_after
 
     -- what the event does, and what it leaves of others and of the generations
@@ -288,7 +288,7 @@ module _ {S L P : Type 0} (F : Layouts S L P) (laws : AreLaws F) (declared : Lis
         drawn = λ stamp known. known;
       }
 
-      turned_shows : (i new : ℕ) (w : PassView P) → IsOfGenerations i
+      turned_shows : (i new : ℕ) (w : PassView P O R) → IsOfGenerations i
           → AreGenerations (set table.words i new) g counts
           → Shows state_after (with_counts r.beside counts) (with_pass table (set table.words i new) table.homes id w)
       turned_shows i new w apart shown = record {
@@ -304,7 +304,7 @@ module _ {S L P : Type 0} (F : Layouts S L P) (laws : AreLaws F) (declared : Lis
       }
 
       -- the pass moved by the event
-      pub turned : (i new : ℕ) (w : PassView P) → IsOfGenerations i
+      pub turned : (i new : ℕ) (w : PassView P O R) → IsOfGenerations i
           → AreGenerations (set table.words i new) g counts
           → KnowsPass F.tag_of state_after (with_counts r.beside counts) id w
           → (after : Rule F declared (with_pass table (set table.words i new) table.homes id w))

@@ -76,8 +76,8 @@ turned_value k word tag fits are most is =
     let c : bit k.moving ≡ 1 = ap bit are.1 in let d : bit k.complete ≡ 0 = ap bit are.2 in
     let n = fits.count in let l = fits.layout in let i = fits.incarnation in omega (arith, is, a, b, c, d, n, l, i, most)
 
-module _ {S L P : Type 0} (F : Layouts S L P) (laws : AreLaws F) (declared : List L)
-    (table : State (Slot P) (View P)) (r : Rule F declared table) (id : ℕ) (v : PassView P)
+module _ {S L P O R : Type 0} (F : Layouts S L P O R) (laws : AreLaws F) (declared : List L)
+    (table : State (Slot P O R) (View P O R)) (r : Rule F declared table) (id : ℕ) (v : PassView P O R)
     (at : get_elem? table.views id ≡ some (Crew (v ∷ []))) (moves : is_moved v.visitor.swap ≡ true) where
   abbrev s : Phases
   s = r.state.phases
@@ -153,14 +153,14 @@ module _ {S L P : Type 0} (F : Layouts S L P) (laws : AreLaws F) (declared : Lis
         core = rw (ap is_moved (stage_is F laws declared table r id v at) ∙ moves, le-leb tag 2 may.known) refl;
         beside =
             rw (
-              ap (λ (z : turns.Caller). holds_none z.held) knows.cells.taker ∙ may.free,
+              ap (λ (z : turns.Caller O R). holds_none z.held) knows.cells.taker ∙ may.free,
               ap (λ z. may_turn_over r.state F.tag_of (object_named z) tag) (stage_is F laws declared table r id v at) ∙ (knows.trace.handed tag may.handed).1,
             )
             refl;
       };
     }
 
-    abbrev after : Joined L
+    abbrev after : Joined L O R
     after = visited r.state (set s.objects o k') (set s.callers c (at_stage v.visitor (Opening o 0))) r.state.kept
 
     effect_is : after ≡ effect r.state (AtPhases (TurnOver c tag))
@@ -200,36 +200,36 @@ module _ {S L P : Type 0} (F : Layouts S L P) (laws : AreLaws F) (declared : Lis
         (few_entries F laws declared table r id v at) small (slice_get-get_or s.objects o fresh_object o_there) refl refl value r.shows.objects))
         pass_after
 
-turn_goes : {S L P : Type 0} (F : Layouts S L P) → AreLaws F → (declared : List L) (id tag : ℕ) (v : PassView P) → MayTurnOver tag v
+turn_goes : {S L P O R : Type 0} (F : Layouts S L P O R) → AreLaws F → (declared : List L) (id tag : ℕ) (v : PassView P O R) → MayTurnOver tag v
     → Moves F declared (AtPhases (TurnOver v.number tag)) (object_word (object_swapped v)) (λ word. (word + turn_amount tag v) % 2 ^ 64) (λ found. turned_view) id v
 turn_goes F laws declared id tag v may = record { from = λ table r at. turns_over F laws declared table r id v at may.moved tag may }
 
-pub turn_moves : {S L P : Type 0} (F : Layouts S L P) → AreLaws F → (declared : List L) (id tag : ℕ) (v : PassView P) → MayTurnOver tag v
+pub turn_moves : {S L P O R : Type 0} (F : Layouts S L P O R) → AreLaws F → (declared : List L) (id tag : ℕ) (v : PassView P O R) → MayTurnOver tag v
     → Moves F declared (AtPhases (TurnOver v.number tag)) (object_word (object_swapped v)) (λ word. (word + turn_amount tag v) % 2 ^ 64) (λ found x. took steps.TurnOver (object_word (object_swapped x)) found (turned_view x))
     id v
 turn_moves F laws declared id tag v may = record { from = (logged_moves steps.TurnOver (λ n. n) (λ found q before is. is) (turn_goes F laws declared id tag v may)).from }
 
 -- as the play tells it, of an addition of this amount at the word that the step names
-module _ {S L P : Type 0} (F : Layouts S L P) (laws : AreLaws F) (declared : List L) (id tag : ℕ)
-    (me : Seated P) (is : IsSeatOf me (pass_in me.0)) (may : MayTurnOver tag (pass_in me.0))
+module _ {S L P O R : Type 0} (F : Layouts S L P O R) (laws : AreLaws F) (declared : List L) (id tag : ℕ)
+    (me : Seated P O R) (is : IsSeatOf me (pass_in me.0)) (may : MayTurnOver tag (pass_in me.0))
     (word o : ℕ) (at : word ≡ object_word o) (same : object_swapped (pass_in me.0) ≡ o) (amount : ℕ) (adds : amount ≡ turn_amount tag (pass_in me.0)) where
   turn_word_there : word ≡ object_word (object_swapped (pass_in me.0))
   turn_word_there = at ∙ ap object_word (sym same)
 
-  abbrev turn_row : ℕ → PassView P → PassView P
+  abbrev turn_row : ℕ → PassView P O R → PassView P O R
   turn_row found x = took steps.TurnOver (object_word (object_swapped x)) found (turned_view x)
 
-  abbrev turn_play : ℕ → PassView P → PassView P
+  abbrev turn_play : ℕ → PassView P O R → PassView P O R
   turn_play found x = took steps.TurnOver word found (turned_view x)
 
   turn_same : (found : ℕ) → turn_row found (pass_in me.0) ≡ turn_play found (pass_in me.0)
   turn_same found = ap (λ i. took steps.TurnOver i found (turned_view (pass_in me.0))) (sym turn_word_there)
 
-  pub turn_allowed : {callers : ℕ} (slots : ℕ) (step : Step (Slot P))
+  pub turn_allowed : {callers : ℕ} (slots : ℕ) (step : Step (Slot P O R))
       → Allows (Ruled F declared callers) slots id me word (λ n. (n + amount) % 2 ^ 64) (Tells turn_play step me)
   turn_allowed {callers} slots step =
       subst (λ (z : ℕ). Allows (Ruled F declared callers) slots id me word (λ n. (n + z) % 2 ^ 64) (Tells turn_play step me)) (sym adds)
       (retold_allowed turn_row turn_play turn_same (turn_moves F laws declared id tag (pass_in me.0) may) me is word turn_word_there slots step)
 
-  pub turn_told : (step : Step (Slot P)) (found : ℕ) (after : Seated P) → Tells turn_play step me found after → Tells turn_row step me found after
+  pub turn_told : (step : Step (Slot P O R)) (found : ℕ) (after : Seated P O R) → Tells turn_play step me found after → Tells turn_row step me found after
   turn_told step found after told = retold turn_row turn_play turn_same me after is step found told

@@ -18,21 +18,21 @@ use Rattle.k42_board.specs.declared.view.PassView.{PassView}
 
 -- the cell of this number, whose seat tells this history
 pub record IsCell
-    {P : Type 0} (n : ℕ) (history : List Entry) (closed : Bool) (own : Option P)
-    (c : code.Content P)
+    {P O R : Type 0} (n : ℕ) (history : List (Entry O R)) (closed : Bool) (own : Option P)
+    (c : code.Content P O R)
     : Type 0 where
   pub number : c.number ≡ n
   pub told : told_by c.badge.views ≡ record { history = history; closed = closed }
   pub part : c.part ≡ own
 
-abbrev pub Slot : Type 0 → Type 0
-Slot P = Option (code.Content P)
+abbrev pub Slot : Type 0 → Type 0 → Type 0 → Type 0
+Slot P O R = Option (code.Content P O R)
 
 -- the slot has the cell while it is at home, and nothing while it is not; a slot that is out is with the holder
 abbrev pub IsSlot :
-    {P : Type 0} → ℕ → Cell → Option P → maybe.Option (Slot P) → Bool → Bool → Type 0
-IsSlot n x part slot out true =
-    (out ≡ false) × ((c : code.Content _) × (slot ≡ some (Some c)) × IsCell n x.history x.closed part c)
+    {P O R : Type 0} → ℕ → Cell O R → Option P → maybe.Option (Slot P O R) → Bool → Bool → Type 0
+IsSlot {O} {R} n x part slot out true =
+    (out ≡ false) × ((c : code.Content _ O R) × (slot ≡ some (Some c)) × IsCell n x.history x.closed part c)
 IsSlot n x part slot true false = slot ≡ none
 IsSlot n x part slot false false = slot ≡ some None
 
@@ -42,17 +42,17 @@ pub record Contents (P : Type 0) : Type 0 where
   pub out : ℕ → Bool
 
 pub record IsCellShown
-    {P : Type 0} (procs : ℕ) (words : List ℕ) (homes : List (maybe.Option (Slot P)))
-    (contents : Contents P) (n : ℕ) (x : Cell)
+    {P O R : Type 0} (procs : ℕ) (words : List ℕ) (homes : List (maybe.Option (Slot P O R)))
+    (contents : Contents P) (n : ℕ) (x : Cell O R)
     : Type 0 where
   pub lock : slice_index words (lock_word n) ≡ holder_value x.lock
   pub slot :
       place_of n < procs
-      → (slot : maybe.Option (Slot P)) × (get_elem? homes (slot_of n) ≡ some slot)
+      → (slot : maybe.Option (Slot P O R)) × (get_elem? homes (slot_of n) ≡ some slot)
       × IsSlot n x (contents.part n) slot (contents.out n) x.home
 
 -- a cell that a pass has taken
-pub record IsNoted {P : Type 0} (t : Turns) (contents : Contents P) (c : ℕ) (note : Note P) : Type 0 where
+pub record IsNoted {P O R : Type 0} (t : Turns O R) (contents : Contents P) (c : ℕ) (note : Note P O R) : Type 0 where
   pub held : (cell_at t note.cell).lock ≡ Some c
   pub away : (cell_at t note.cell).home ≡ false
   pub history : (cell_at t note.cell).history ≡ note.history
@@ -60,15 +60,15 @@ pub record IsNoted {P : Type 0} (t : Turns) (contents : Contents P) (c : ℕ) (n
   pub part : contents.part note.cell ≡ note.part
 
 -- the cell whose slot is out with the pass
-pub record IsOut {P : Type 0} (t : Turns) (contents : Contents P) (c n : ℕ) : Type 0 where
+pub record IsOut {P O R : Type 0} (t : Turns O R) (contents : Contents P) (c n : ℕ) : Type 0 where
   pub held : (cell_at t n).lock ≡ Some c
   pub away : (cell_at t n).home ≡ false
   pub out : contents.out n ≡ true
 
-abbrev pub cells_noted : {P : Type 0} → List (Note P) → List ℕ
+abbrev pub cells_noted : {P O R : Type 0} → List (Note P O R) → List ℕ
 cells_noted notes = map (λ note. note.cell) notes
 
-pub record KnowsCells {P : Type 0} (t : Turns) (contents : Contents P) (v : PassView P) : Type 0 where
+pub record KnowsCells {P O R : Type 0} (t : Turns O R) (contents : Contents P) (v : PassView P O R) : Type 0 where
   pub taker : caller_at t v.number ≡ v.taker
   pub notes : EachPlace (λ place note. IsNoted t contents v.number note) v.notes
   -- of each cell that it has taken there is a note

@@ -11,8 +11,6 @@ use Rattle.k42_kinds.specs.declared.entry.Answer.TheVariants.{Replied, Swapped, 
 use Rattle.k42_kinds.specs.declared.entry.Entry.{Entry}
 use Rattle.k42_kinds.specs.declared.entry.Reach.{Reach}
 use Rattle.k42_kinds.specs.declared.entry.Reach.TheVariants.{One, All}
-use Rattle.k42_kinds.specs.declared.operation.Op.{Op}
-use Rattle.k42_kinds.specs.declared.operation.Reply.{Reply}
 use Rattle.phase_core.specs.Stages.{IsInside, object_of, row_of, object_named}
 use Rattle.phase_core.specs.declared.caller.SwapAt.{SwapAt}
 use Rattle.phase_core.specs.declared.caller.SwapAt.TheVariants.{Moved, Reopening, Opened}
@@ -36,36 +34,36 @@ use Rattle.k42_board.specs.declared.view.PassView.{PassView}
 
 -- what a pass has noted of a cell
 
-abbrev pub history_noted : {P : Type 0} → List (Note P) → ℕ → List Entry
+abbrev pub history_noted : {P O R : Type 0} → List (Note P O R) → ℕ → List (Entry O R)
 history_noted [] n = []
 history_noted (note ∷ notes) n = if note.cell == n then note.history else history_noted notes n
 
-abbrev pub closed_noted : {P : Type 0} → List (Note P) → ℕ → Bool
+abbrev pub closed_noted : {P O R : Type 0} → List (Note P O R) → ℕ → Bool
 closed_noted [] n = false
 closed_noted (note ∷ notes) n = if note.cell == n then note.closed else closed_noted notes n
 
-abbrev pub part_noted : {P : Type 0} → List (Note P) → ℕ → Option P
+abbrev pub part_noted : {P O R : Type 0} → List (Note P O R) → ℕ → Option P
 part_noted [] n = None
 part_noted (note ∷ notes) n = if note.cell == n then note.part else part_noted notes n
 
 -- the part of a place of a row, where a missing one stands for the empty one, and those of so many places
-abbrev pub part_due : {S P : Type 0} → Ways S P → ℕ → List (Note P) → ℕ → ℕ → ℕ → P
+abbrev pub part_due : {S P O R : Type 0} → Ways S P O R → ℕ → List (Note P O R) → ℕ → ℕ → ℕ → P
 part_due ways procs notes o i p = unwrap_or (part_noted notes (cell_of o i p)) (ways.empty procs p)
 
-abbrev pub parts_due : {S P : Type 0} → Ways S P → ℕ → List (Note P) → ℕ → ℕ → ℕ → List P
+abbrev pub parts_due : {S P O R : Type 0} → Ways S P O R → ℕ → List (Note P O R) → ℕ → ℕ → ℕ → List P
 parts_due ways procs notes o i tag = made_from (part_due ways procs notes o i) 0 (cells_of tag procs)
 
 -- the stamp that a draw bears: one more than the last that the pass and these cells know
 
-abbrev pub last_noted : {P : Type 0} → List (Note P) → List ℕ → ℕ
+abbrev pub last_noted : {P O R : Type 0} → List (Note P O R) → List ℕ → ℕ
 last_noted notes [] = 0
 last_noted notes (n ∷ cells) = max (last_stamp (history_noted notes n)) (last_noted notes cells)
 
-abbrev pub stamp_next : {P : Type 0} → PassView P → List ℕ → ℕ
+abbrev pub stamp_next : {P O R : Type 0} → PassView P O R → List ℕ → ℕ
 stamp_next v cells = max v.taker.clock (last_noted v.notes cells) + 1
 
 -- the next entry of the pass, at these cells; a call bears the generation of its activity
-abbrev pub entry_next : {P : Type 0} → PassView P → List ℕ → (object incarnation cell : ℕ) → Act → Answer → Entry
+abbrev pub entry_next : {P O R : Type 0} → PassView P O R → List ℕ → (object incarnation cell : ℕ) → Act O → Answer R → Entry O R
 entry_next v cells object incarnation cell act answer = record {
   stamp = stamp_next v cells;
   caller = v.number;
@@ -82,87 +80,87 @@ entry_next v cells object incarnation cell act answer = record {
 -- the entry of a call, of a swap that found its object over, of one that was refused or given up, and of a
 -- hand
 
-abbrev pub entry_call : {P : Type 0} → PassView P → List ℕ → Act → Answer → Entry
+abbrev pub entry_call : {P O R : Type 0} → PassView P O R → List ℕ → Act O → Answer R → Entry O R
 entry_call v cells act answer =
     entry_next v cells (object_of v.visitor.place) (row_of v.visitor.place) (first_cell cells) act answer
 
-abbrev pub entry_mark : {P : Type 0} → PassView P → ℕ → Act → Answer → Entry
+abbrev pub entry_mark : {P O R : Type 0} → PassView P O R → ℕ → Act O → Answer R → Entry O R
 entry_mark v n act answer =
     entry_next v (n ∷ []) (object_begun v.last) (incarnation_in (word_begun v.last)) n act answer
 
 -- the number of the swap that the answer tells of
-abbrev pub number_told : Answer → ℕ
+abbrev pub number_told : {R : Type 0} → Answer R → ℕ
 number_told (Busy number) = number
 number_told (Abandoned number) = number
 number_told answer = 0
 
-abbrev pub entry_alone : {P : Type 0} → PassView P → Act → Answer → Entry
+abbrev pub entry_alone : {P O R : Type 0} → PassView P O R → Act O → Answer R → Entry O R
 entry_alone v act answer = entry_next v [] (object_begun v.last) (number_told answer - 1) 0 act answer
 
-abbrev pub entry_hand : {P : Type 0} → PassView P → List ℕ → List ℕ → Act → Answer → Entry
+abbrev pub entry_hand : {P O R : Type 0} → PassView P O R → List ℕ → List ℕ → Act O → Answer R → Entry O R
 entry_hand v from onto act answer =
     entry_next v (from ++ onto) (object_named v.visitor.swap) (incarnation_in (word_begun v.last)) (first_cell onto) act
     answer
 
 -- cells that were taken
 
-abbrev pub numbers_of : {P : Type 0} → List (Content P) → List ℕ
+abbrev pub numbers_of : {P O R : Type 0} → List (Content P O R) → List ℕ
 numbers_of contents = map (λ content. content.number) contents
 
 -- the entry of a call that was made at these cells
-abbrev pub entry_at : {P : Type 0} → List (Content P) → Op → Reply → PassView P → Entry
+abbrev pub entry_at : {P O R : Type 0} → List (Content P O R) → O → R → PassView P O R → Entry O R
 entry_at contents op reply v = entry_call v (numbers_of contents) (Call op) (Replied reply)
 
 -- the part of the cell with this number
-abbrev pub part_in : {P : Type 0} → List (Content P) → ℕ → Option P
+abbrev pub part_in : {P O R : Type 0} → List (Content P O R) → ℕ → Option P
 part_in [] n = None
 part_in (content ∷ contents) n = if content.number == n then content.part else part_in contents n
 
 -- the greatest last stamp that these cells tell
-abbrev pub last_told : {P : Type 0} → List (Content P) → ℕ
+abbrev pub last_told : {P O R : Type 0} → List (Content P O R) → ℕ
 last_told [] = 0
 last_told (content ∷ contents) = max content.last (last_told contents)
 
 -- the pass has noted the cell as the cell's seat tells it
-pub record IsHeld {P : Type 0} (notes : List (Note P)) (content : Content P) : Type 0 where
+pub record IsHeld {P O R : Type 0} (notes : List (Note P O R)) (content : Content P O R) : Type 0 where
   pub noted : names (cells_noted notes) content.number ≡ true
   pub history : (told_by content.badge.views).history ≡ history_noted notes content.number
   pub closed : (told_by content.badge.views).closed ≡ closed_noted notes content.number
 
-abbrev pub AreHeld : {P : Type 0} → List (Note P) → List (Content P) → Type 0
+abbrev pub AreHeld : {P O R : Type 0} → List (Note P O R) → List (Content P O R) → Type 0
 AreHeld notes contents = EachPlace (λ place content. IsHeld notes content) contents
 
 -- the cells have the parts of the row at their places
-abbrev pub HaveParts : {P : Type 0} → List P → List (Content P) → Type 0
+abbrev pub HaveParts : {P O R : Type 0} → List P → List (Content P O R) → Type 0
 HaveParts row contents = EachPlace (λ place content. content.part ≡ part_at row place) contents
 
 -- what a draw makes of the cells: each tells the entry, and keeps its number and its part
-pub record IsTold {P : Type 0} (notes : List (Note P)) (old new : Content P) : Type 0 where
+pub record IsTold {P O R : Type 0} (notes : List (Note P O R)) (old new : Content P O R) : Type 0 where
   pub number : new.number ≡ old.number
   pub part : new.part ≡ old.part
   pub held : IsHeld notes new
 
-abbrev pub AreTold : {P : Type 0} → List (Note P) → List (Content P) → List (Content P) → Type 0
+abbrev pub AreTold : {P O R : Type 0} → List (Note P O R) → List (Content P O R) → List (Content P O R) → Type 0
 AreTold notes old new = (length new ≡ length old) × EachPair (λ place x y. IsTold notes x y) old new
 
 -- the pass after a draw
 
 -- the note of a named cell has the entry, and the part that is due after it
-abbrev pub told_note : {P : Type 0} → List ℕ → Entry → (ℕ → Option P) → Note P → Note P
+abbrev pub told_note : {P O R : Type 0} → List ℕ → Entry O R → (ℕ → Option P) → Note P O R → Note P O R
 told_note cells entry fresh note =
     if names cells note.cell then record note { history = note.history ++ entry ∷ []; part = fresh note.cell } else note
 
-abbrev pub told_notes : {P : Type 0} → List ℕ → Entry → (ℕ → Option P) → List (Note P) → List (Note P)
+abbrev pub told_notes : {P O R : Type 0} → List ℕ → Entry O R → (ℕ → Option P) → List (Note P O R) → List (Note P O R)
 told_notes cells entry fresh notes = map (told_note cells entry fresh) notes
 
-abbrev pub drawn_view : {P : Type 0} → List ℕ → Entry → (ℕ → Option P) → PassView P → PassView P
+abbrev pub drawn_view : {P O R : Type 0} → List ℕ → Entry O R → (ℕ → Option P) → PassView P O R → PassView P O R
 drawn_view cells entry fresh v = record v {
   taker = caller_drawn entry v.taker;
   notes = told_notes cells entry fresh v.notes;
   found = None;
 }
 
-abbrev pub alone_view : {P : Type 0} → Entry → PassView P → PassView P
+abbrev pub alone_view : {P O R : Type 0} → Entry O R → PassView P O R → PassView P O R
 alone_view entry v = record v {
   taker = caller_drawn entry v.taker;
   found = None;
@@ -170,14 +168,14 @@ alone_view entry v = record v {
 }
 
 -- the first cells are closed, and the others begin with the entry
-abbrev pub handed_note : {P : Type 0} → List ℕ → List ℕ → Entry → (ℕ → Option P) → Note P → Note P
+abbrev pub handed_note : {P O R : Type 0} → List ℕ → List ℕ → Entry O R → (ℕ → Option P) → Note P O R → Note P O R
 handed_note from onto entry fresh note =
     if names from note.cell then record note { closed = true; part = fresh note.cell }
     else if names onto note.cell
     then record note { closed = false; history = entry ∷ []; part = fresh note.cell }
     else note
 
-abbrev pub handed_view : {P : Type 0} → List ℕ → List ℕ → Entry → ℕ → (ℕ → Option P) → PassView P → PassView P
+abbrev pub handed_view : {P O R : Type 0} → List ℕ → List ℕ → Entry O R → ℕ → (ℕ → Option P) → PassView P O R → PassView P O R
 handed_view from onto entry tag fresh v = record v {
   taker = caller_drawn entry v.taker;
   notes = map (handed_note from onto entry fresh) v.notes;
@@ -186,23 +184,23 @@ handed_view from onto entry tag fresh v = record v {
 }
 
 -- the seats of these cells do not tell of it yet
-abbrev pub untold_view : {P : Type 0} → List ℕ → PassView P → PassView P
+abbrev pub untold_view : {P O R : Type 0} → List ℕ → PassView P O R → PassView P O R
 untold_view cells v = record v { untold = cells }
 
 -- the pass that draws an entry at these cells, and once their seats tell of it
-abbrev pub draws_at : {P : Type 0} → List (Content P) → Entry → PassView P → PassView P
+abbrev pub draws_at : {P O R : Type 0} → List (Content P O R) → Entry O R → PassView P O R → PassView P O R
 draws_at contents entry v =
     untold_view (numbers_of contents) (drawn_view (numbers_of contents) entry (part_in contents) v)
 
-abbrev pub drawn_at : {P : Type 0} → List (Content P) → Entry → PassView P → PassView P
+abbrev pub drawn_at : {P O R : Type 0} → List (Content P O R) → Entry O R → PassView P O R → PassView P O R
 drawn_at contents entry v = untold_view [] (drawn_view (numbers_of contents) entry (part_in contents) v)
 
 -- its clock is not above the number of entries that may be drawn
-abbrev pub HasSmallStamp : {P : Type 0} → PassView P → Type 0
+abbrev pub HasSmallStamp : {P O R : Type 0} → PassView P O R → Type 0
 HasSmallStamp v = v.taker.clock ≤ LAST_STAMP
 
 -- the pass that has drawn has the same seat, and at most one entry less room where it keeps them
-pub record IsDrawer {P : Type 0} (old new : PassSeen P) : Type 0 where
+pub record IsDrawer {P O R : Type 0} (old new : PassSeen P O R) : Type 0 where
   pub table : new.table ≡ old.table
   pub seat : new.seat ≡ old.seat
   pub keep : new.keep ≡ old.keep
@@ -213,7 +211,7 @@ pub record IsDrawer {P : Type 0} (old new : PassSeen P) : Type 0 where
   pub popped : new.popped ≡ old.popped
 
 -- Its last Begin found the object over, with this answer; the cell is the first of that row.
-pub record MayDrawMark {P : Type 0} (content : Content P) (act : Act) (answer : Answer) (v : PassView P) : Type 0 where
+pub record MayDrawMark {P O R : Type 0} (content : Content P O R) (act : Act O) (answer : Answer R) (v : PassView P O R) : Type 0 where
   pub act_is : is_call act ≡ false
   pub found : v.found ≡ Some answer
   pub over : tells_over answer ≡ true
@@ -229,27 +227,27 @@ gives_up (Opened o) turned = not turned
 gives_up swap turned = false
 
 -- what its last Begin found, or the number of the swap that it gives up, of which it has not told yet
-abbrev pub IsAnswerAlone : {P : Type 0} → PassView P → Answer → Type 0
+abbrev pub IsAnswerAlone : {P O R : Type 0} → PassView P O R → Answer R → Type 0
 IsAnswerAlone v (Busy number) = v.found ≡ Some (Busy number)
 IsAnswerAlone v (Abandoned number) =
     (gives_up v.visitor.swap v.turned ≡ true) × (v.abandoned ≡ false)
     × (number ≡ incarnation_in (word_begun v.last) + 1)
 IsAnswerAlone v _ = ⊥
 
-pub record MayDrawAlone {P : Type 0} (act : Act) (answer : Answer) (v : PassView P) : Type 0 where
+pub record MayDrawAlone {P O R : Type 0} (act : Act O) (answer : Answer R) (v : PassView P O R) : Type 0 where
   pub act_is : is_call act ≡ false
   pub answer_is : IsAnswerAlone v answer
   pub few : length v.taker.mine < PASS_ENTRIES
 
 -- layouts of one object with one tag keep it in one way
-abbrev pub AgreeOn : {S L P : Type 0} → Layouts S L P → Type 0
+abbrev pub AgreeOn : {S L P O R : Type 0} → Layouts S L P O R → Type 0
 AgreeOn {S} {L} F =
     (layout other : L) → F.object_of layout ≡ F.object_of other → F.tag_of layout ≡ F.tag_of other
     → F.ways_of layout ≡ F.ways_of other
 
-module _ {S L P : Type 0} (F : Layouts S L P) (declared : List L) where
+module _ {S L P O R : Type 0} (F : Layouts S L P O R) (declared : List L) where
   -- the operation was stepped on the parts that are due, with this reply
-  abbrev pub IsStepped : L → List (Note P) → (o i : ℕ) → List (Content P) → Op → Reach → Reply → Type 0
+  abbrev pub IsStepped : L → List (Note P O R) → (o i : ℕ) → List (Content P O R) → O → Reach → R → Type 0
   IsStepped layout notes o i contents op (One p) reply =
       let ways = F.ways_of layout in
       let part = part_due ways F.procs notes o i p in
@@ -261,7 +259,7 @@ module _ {S L P : Type 0} (F : Layouts S L P) (declared : List L) where
       (reply ≡ ways.row_reply parts op) × HaveParts (ways.row_after parts op) contents
 
   -- A call is inside a row whose layout it knows, and has stepped its operation at the cells that the layout names.
-  pub record MayDrawCall (contents : List (Content P)) (op : Op) (reply : Reply) (v : PassView P) : Type 0 where
+  pub record MayDrawCall (contents : List (Content P O R)) (op : O) (reply : R) (v : PassView P O R) : Type 0 where
     pub object : ℕ
     pub row : ℕ
     pub inside : IsInside v.visitor.place object row
@@ -279,18 +277,18 @@ module _ {S L P : Type 0} (F : Layouts S L P) (declared : List L) where
     pub few : length v.taker.mine < PASS_ENTRIES
 
   -- the parts that are due in the row which the pass moves
-  abbrev pub parts_moved : L → PassView P → ℕ → List P
+  abbrev pub parts_moved : L → PassView P O R → ℕ → List P
   parts_moved layout v o =
       parts_due (F.ways_of layout) F.procs v.notes o (incarnation_in (word_begun v.last)) (F.tag_of layout)
 
   -- the cell of a row that is handed on keeps its part; a missing one may be made
-  abbrev pub KeepsPart : List (Note P) → List P → ℕ → Content P → Type 0
+  abbrev pub KeepsPart : List (Note P O R) → List P → ℕ → Content P O R → Type 0
   KeepsPart notes row place content =
       (content.part ≡ part_noted notes content.number) ⊎ (content.part ≡ part_at row place)
 
   -- It moves its object, has taken all cells of the present row and of the next, and has put into these, in their
   -- order, what the new layout imports of the state for which the present parts stand.
-  pub record MayHandOn (from onto : List (Content P)) (to : L) (answer : Answer) (v : PassView P) : Type 0 where
+  pub record MayHandOn (from onto : List (Content P O R)) (to : L) (answer : Answer R) (v : PassView P O R) : Type 0 where
     pub object : ℕ
     pub moved : v.visitor.swap ≡ Moved object
     pub once : v.handed ≡ None

@@ -55,7 +55,7 @@ in_words x = record x {
 }
 
 -- what a pass knows of its activity and its grace
-pub record KnowsGenerations {P : Type 0} (g : Generations) (counts : Counts) (v : PassView P) : Type 0 where
+pub record KnowsGenerations {P O R : Type 0} (g : Generations) (counts : Counts) (v : PassView P O R) : Type 0 where
   pub turn : in_words (caller_at g v.number) ≡ v.turn
   pub graces : slice_index counts.graces v.number ≡ v.graces
   -- the generation that its grace found is that of each processor which it has not flipped

@@ -17,14 +17,14 @@ abbrev pub put_at : ℕ → Bool → Taken
 put_at word full = record { step = steps.Put; word = word; found = 0; full = full }
 
 -- the pass has taken it
-abbrev pub logs : {P : Type 0} → Taken → PassView P → PassView P
+abbrev pub logs : {P O R : Type 0} → Taken → PassView P O R → PassView P O R
 logs taken v = record v { log = taken ∷ v.log }
 
-abbrev pub took : {P : Type 0} → StepName → (word found : ℕ) → PassView P → PassView P
+abbrev pub took : {P O R : Type 0} → StepName → (word found : ℕ) → PassView P O R → PassView P O R
 took step word found v = logs (step_at step word found) v
 
 -- or these, and nothing else that it knows is new
-abbrev pub with_log : {P : Type 0} → List Taken → PassView P → PassView P
+abbrev pub with_log : {P O R : Type 0} → List Taken → PassView P O R → PassView P O R
 with_log log v = record v { log = log }
 
 -- what the last step found, 0 where there is none
@@ -81,7 +81,7 @@ pub record EndsWith (taken : Taken) (old new : List Taken) : Type 0 where
   pub meets_none : obstacles gained ≡ []
 
 -- by steps of its own the pass has come to know this
-pub record ComesTo {P : Type 0} (old due new : PassView P) : Type 0 where
+pub record ComesTo {P O R : Type 0} (old due new : PassView P O R) : Type 0 where
   pub knows : new ≡ with_log new.log due
   pub log : Extends old.log new.log
 

@@ -24,11 +24,11 @@ abbrev pub due_of : SwapAt → Option LastBegin → List Row → ℕ → Option 
 due_of swap last rows o =
     if is_of (named_by swap) o then Some (incarnation_in (word_begun last)) else after_rows rows o
 
-abbrev pub due_note : {P : Type 0} → PassView P → ℕ → Option ℕ
+abbrev pub due_note : {P O R : Type 0} → PassView P O R → ℕ → Option ℕ
 due_note v o = due_of v.visitor.swap v.last v.rows o
 
 -- for each object
-abbrev pub notes_due : {P : Type 0} → PassView P → List (Option ℕ)
+abbrev pub notes_due : {P O R : Type 0} → PassView P O R → List (Option ℕ)
 notes_due v = made_from (due_note v) 0 (length v.visitor.noted)
 
 -- the numbers that are known, each with its object; the objects are counted from a first one

@@ -47,7 +47,7 @@ pub record IsLastFreed (span : ℕ × ℕ) (k : Object) : Type 0 where
   pub last : span.1 ≡ k.incarnation
 
 -- what a pass knows of the object that it swaps
-pub record KnowsSwap {P : Type 0} (s : Phases) (v : PassView P) : Type 0 where
+pub record KnowsSwap {P O R : Type 0} (s : Phases) (v : PassView P O R) : Type 0 where
   pub turned : v.turned ≡ is_turned v.visitor.swap (object_at s (object_named v.visitor.swap))
   -- until it turns the object over, what its Begin found there stays
   pub layout_begun :
@@ -62,7 +62,7 @@ pub record KnowsSwap {P : Type 0} (s : Phases) (v : PassView P) : Type 0 where
       → incarnation_in (word_begun v.last) + 1 ≡ (object_at s o).incarnation
 
 -- what it knows of rows that were handed on
-pub record KnowsRows {P : Type 0} (s : Phases) (v : PassView P) : Type 0 where
+pub record KnowsRows {P O R : Type 0} (s : Phases) (v : PassView P O R) : Type 0 where
   pub old : EachPlace (λ place row. IsOld s row) v.rows
   -- its grace has noted more than the rows that it held then
   pub granted : EachPlace (λ place row. IsGranted v.visitor.noted row) (take v.granted v.rows)
@@ -74,7 +74,7 @@ pub record KnowsRows {P : Type 0} (s : Phases) (v : PassView P) : Type 0 where
       (o : ℕ) → (span_at v.visitor.freeing o).0 < (span_at v.visitor.freeing o).1
       → IsLastFreed (span_at v.visitor.freeing o) (object_at s o)
 
-pub record KnowsPhases {P : Type 0} (s : Phases) (v : PassView P) : Type 0 where
+pub record KnowsPhases {P O R : Type 0} (s : Phases) (v : PassView P O R) : Type 0 where
   pub visitor : visitor_at s v.number ≡ v.visitor
   -- the layout that it has learned is that of the row which it is inside
   pub layout :

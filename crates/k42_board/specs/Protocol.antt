@@ -6,8 +6,6 @@ use Rattle.phase_core.specs.Event as phases
 use Rattle.phase_core.specs.Stages.{object_of}
 use Rattle.turn_core.specs.declared.event.TurnEvent.TheVariants as cells
 use Rattle.k42_kinds.specs.declared.entry.Entry.{Entry}
-use Rattle.k42_kinds.specs.declared.operation.Op.{Op}
-use Rattle.k42_kinds.specs.declared.operation.Reply.{Reply}
 use Rattle.k42_joined.specs.Drawing.{first_cell}
 use Rattle.k42_joined.specs.Event.{AtPhases, AtCells, HandWith}
 use Rattle.k42_board.specs.Drawing.{MayDrawAlone, MayDrawMark, MayDrawCall, MayHandOn, HasSmallStamp, entry_alone, entry_mark, entry_at, entry_hand, numbers_of, alone_view, draws_at}
@@ -30,7 +28,7 @@ module _ {S L P : Type 0} where
   -- ACTIVITIES
 
   -- begins an activity in the generation that it finds
-  abbrev pub enter : PassView P → WordStep S L P
+  abbrev pub enter : {O R : Type 0} → PassView P O R → WordStep S L P O R
   enter v = record {
     event = Some (AtPhases (phases.Turn (graces.Enter v.number)));
     word = generation_word v.turn.proc;
@@ -41,7 +39,7 @@ module _ {S L P : Type 0} where
   }
 
   -- ends the activity of this generation
-  abbrev pub leave : ℕ → PassView P → WordStep S L P
+  abbrev pub leave : {O R : Type 0} → ℕ → PassView P O R → WordStep S L P O R
   leave generation v = record {
     event = Some (AtPhases (phases.Turn (graces.Leave v.number)));
     word = exits_word v.turn.proc (generation % 2);
@@ -54,7 +52,7 @@ module _ {S L P : Type 0} where
   -- GRACES
 
   -- takes the role where nobody has it, and notes then what its grace may free
-  abbrev pub take_role : PassView P → WordStep S L P
+  abbrev pub take_role : {O R : Type 0} → PassView P O R → WordStep S L P O R
   take_role v = record {
     event = Some (AtPhases (phases.TakeRoleWith v.number (pairs_from 0 (notes_due v))));
     word = role_word;
@@ -65,7 +63,7 @@ module _ {S L P : Type 0} where
   }
 
   -- asks for the generation of the processors, which it is about to end
-  abbrev pub ask_generation : PassView P → WordStep S L P
+  abbrev pub ask_generation : {O R : Type 0} → PassView P O R → WordStep S L P O R
   ask_generation v = record {
     event = None;
     word = generation_word 0;
@@ -77,7 +75,7 @@ module _ {S L P : Type 0} where
 
   -- reads the exits of a processor: of the generation to come before it flips the processor, of the one that it has ended
   -- later, until all have left that
-  abbrev pub look : (p parity : ℕ) → PassView P → WordStep S L P
+  abbrev pub look : {O R : Type 0} (p parity : ℕ) → PassView P O R → WordStep S L P O R
   look p parity v = record {
     event = Some (AtPhases (phases.Turn (look_event v.number v.turn.grace)));
     word = exits_word p parity;
@@ -88,7 +86,7 @@ module _ {S L P : Type 0} where
   }
 
   -- begins the next generation of the processor
-  abbrev pub flip : ℕ → PassView P → WordStep S L P
+  abbrev pub flip : {O R : Type 0} → ℕ → PassView P O R → WordStep S L P O R
   flip p v = record {
     event = Some (AtPhases (phases.Turn (graces.Flip v.number)));
     word = generation_word p;
@@ -99,7 +97,7 @@ module _ {S L P : Type 0} where
   }
 
   -- gives the role back, and with it the rows that it held as it took the role
-  abbrev pub give_role : PassView P → WordStep S L P
+  abbrev pub give_role : {O R : Type 0} → PassView P O R → WordStep S L P O R
   give_role v = record {
     event = Some (AtPhases (phases.Turn (graces.GiveRole v.number)));
     word = role_word;
@@ -110,7 +108,7 @@ module _ {S L P : Type 0} where
   }
 
   -- frees the rows of the object from the mark that it finds up to the number that its grace noted
-  abbrev pub free : ℕ → PassView P → WordStep S L P
+  abbrev pub free : {O R : Type 0} → ℕ → PassView P O R → WordStep S L P O R
   free o v = record {
     event = Some (AtPhases (phases.Free v.number o));
     word = freed_word o;
@@ -123,7 +121,7 @@ module _ {S L P : Type 0} where
   -- CALLS
 
   -- reads where its processor's entry of the object leads
-  abbrev pub look_up : ℕ → PassView P → WordStep S L P
+  abbrev pub look_up : {O R : Type 0} → ℕ → PassView P O R → WordStep S L P O R
   look_up o v = record {
     event = Some (AtPhases (phases.LookUp v.number o));
     word = local_word v.turn.proc o;
@@ -134,7 +132,7 @@ module _ {S L P : Type 0} where
   }
 
   -- reads the object's word for the layout of the row that it missed
-  abbrev pub load_root : ℕ → PassView P → WordStep S L P
+  abbrev pub load_root : {O R : Type 0} → ℕ → PassView P O R → WordStep S L P O R
   load_root o v = record {
     event = Some (AtPhases (phases.RootLoad v.number o));
     word = object_word o;
@@ -145,7 +143,7 @@ module _ {S L P : Type 0} where
   }
 
   -- leads its processor's entry of the object to the cell, where it is still empty as it was
-  abbrev pub install : (o cell : ℕ) → PassView P → WordStep S L P
+  abbrev pub install : {O R : Type 0} (o cell : ℕ) → PassView P O R → WordStep S L P O R
   install o cell v = record {
     event = Some (AtPhases (phases.Install v.number o));
     word = local_word v.turn.proc o;
@@ -156,7 +154,7 @@ module _ {S L P : Type 0} where
   }
 
   -- ends a call that the mediator does not count
-  abbrev pub end_call : PassView P → WordStep S L P
+  abbrev pub end_call : {O R : Type 0} → PassView P O R → WordStep S L P O R
   end_call v = record {
     event = Some (AtPhases (phases.EndCall v.number));
     word = local_word v.turn.proc (object_of v.visitor.place);
@@ -167,7 +165,7 @@ module _ {S L P : Type 0} where
   }
 
   -- knocks at the mediator, which counts the caller, and lets it in unless the swap blocks
-  abbrev pub knock : ℕ → PassView P → WordStep S L P
+  abbrev pub knock : {O R : Type 0} → ℕ → PassView P O R → WordStep S L P O R
   knock o v = record {
     event = Some (AtPhases (phases.Knock v.number o));
     word = object_word o;
@@ -178,7 +176,7 @@ module _ {S L P : Type 0} where
   }
 
   -- is no longer counted at the mediator
-  abbrev pub step_out : PassView P → WordStep S L P
+  abbrev pub step_out : {O R : Type 0} → PassView P O R → WordStep S L P O R
   step_out v = record {
     event = Some (AtPhases (phases.StepOut v.number));
     word = object_word (object_of v.visitor.place);
@@ -191,7 +189,7 @@ module _ {S L P : Type 0} where
   -- SWAPS
 
   -- begins a swap of the object, unless one is under way
-  abbrev pub begin : ℕ → PassView P → WordStep S L P
+  abbrev pub begin : {O R : Type 0} → ℕ → PassView P O R → WordStep S L P O R
   begin o v = record {
     event = Some (AtPhases (phases.Begin v.number o));
     word = object_word o;
@@ -202,7 +200,7 @@ module _ {S L P : Type 0} where
   }
 
   -- changes the entry of the processor: to a mediator while it interposes, to an empty one while it opens
-  abbrev pub change_entry : ℕ → PassView P → WordStep S L P
+  abbrev pub change_entry : {O R : Type 0} → ℕ → PassView P O R → WordStep S L P O R
   change_entry p v = record {
     event = Some (AtPhases (entry_event v.number v.visitor.swap));
     word = local_word p (object_swapped v);
@@ -213,7 +211,7 @@ module _ {S L P : Type 0} where
   }
 
   -- blocks the object, so that whoever knocks from now on is kept out
-  abbrev pub block : PassView P → WordStep S L P
+  abbrev pub block : {O R : Type 0} → PassView P O R → WordStep S L P O R
   block v = record {
     event = Some (AtPhases (phases.Block v.number));
     word = object_word (object_swapped v);
@@ -224,7 +222,7 @@ module _ {S L P : Type 0} where
   }
 
   -- begins to move the state of the object, where nobody is counted
-  abbrev pub move : PassView P → WordStep S L P
+  abbrev pub move : {O R : Type 0} → PassView P O R → WordStep S L P O R
   move v = record {
     event = Some (AtPhases (phases.Move v.number));
     word = object_word (object_swapped v);
@@ -235,7 +233,7 @@ module _ {S L P : Type 0} where
   }
 
   -- turns the object over, to the next incarnation and to the layout with which its row was handed on
-  abbrev pub turn_over : ℕ → PassView P → WordStep S L P
+  abbrev pub turn_over : {O R : Type 0} → ℕ → PassView P O R → WordStep S L P O R
   turn_over tag v = record {
     event = Some (AtPhases (phases.TurnOver v.number tag));
     word = object_word (object_swapped v);
@@ -246,7 +244,7 @@ module _ {S L P : Type 0} where
   }
 
   -- gives up what it moves and has not handed on, or ends the swap
-  abbrev pub clear : PassView P → WordStep S L P
+  abbrev pub clear : {O R : Type 0} → PassView P O R → WordStep S L P O R
   clear v = record {
     event = Some (AtPhases (clear_event v.number v.visitor.swap));
     word = object_word (object_swapped v);
@@ -259,7 +257,7 @@ module _ {S L P : Type 0} where
   -- CELLS
 
   -- takes the lock of a cell, where it is free
-  abbrev pub lock : ℕ → PassView P → WordStep S L P
+  abbrev pub lock : {O R : Type 0} → ℕ → PassView P O R → WordStep S L P O R
   lock n v = record {
     event = Some (AtCells (cells.Lock v.number n));
     word = lock_word n;
@@ -270,7 +268,7 @@ module _ {S L P : Type 0} where
   }
 
   -- the same, but that no trace is left where another has it: the pass is as it was
-  abbrev pub lock_quietly : ℕ → PassView P → WordStep S L P
+  abbrev pub lock_quietly : {O R : Type 0} → ℕ → PassView P O R → WordStep S L P O R
   lock_quietly n v = record {
     event = Some (AtCells (cells.Lock v.number n));
     word = lock_word n;
@@ -281,7 +279,7 @@ module _ {S L P : Type 0} where
   }
 
   -- leaves the lock of a cell that is in its place
-  abbrev pub unlock : ℕ → PassView P → WordStep S L P
+  abbrev pub unlock : {O R : Type 0} → ℕ → PassView P O R → WordStep S L P O R
   unlock n v = record {
     event = Some (AtCells (cells.Unlock v.number n));
     word = lock_word n;
@@ -294,7 +292,7 @@ module _ {S L P : Type 0} where
   -- ENTRIES
 
   -- draws, at no cell, that a swap was refused by another, or given up
-  abbrev pub draw_alone : Entry → PassView P → WordStep S L P
+  abbrev pub draw_alone : {O R : Type 0} → Entry O R → PassView P O R → WordStep S L P O R
   draw_alone entry v = record {
     event = Some (AtCells (cells.Alone v.number entry));
     word = role_word;
@@ -305,7 +303,7 @@ module _ {S L P : Type 0} where
   }
 
   -- draws, at the first cell of the present row, that a swap found its object over
-  abbrev pub draw_mark : Content P → Entry → PassView P → WordStep S L P
+  abbrev pub draw_mark : {O R : Type 0} → Content P O R → Entry O R → PassView P O R → WordStep S L P O R
   draw_mark cell entry v = record {
     event = Some (AtCells (cells.Draw v.number (cell.number ∷ []) entry));
     word = lock_word cell.number;
@@ -316,7 +314,7 @@ module _ {S L P : Type 0} where
   }
 
   -- draws a call that was stepped, at the cells that its layout names
-  abbrev pub draw_call : List (Content P) → Op → Reply → PassView P → WordStep S L P
+  abbrev pub draw_call : {O R : Type 0} → List (Content P O R) → O → R → PassView P O R → WordStep S L P O R
   draw_call contents op reply v =
       let entry = entry_at contents op reply v in record {
         event = Some (AtCells (cells.Draw v.number (numbers_of contents) entry));
@@ -329,7 +327,7 @@ module _ {S L P : Type 0} where
 
   -- closes the first cells, those of the present row on so many processors, and begins with the others the row of the new
   -- layout, by its tag
-  abbrev pub hand_on : ℕ → List (Content P) → L → ℕ → Entry → PassView P → WordStep S L P
+  abbrev pub hand_on : {O R : Type 0} → ℕ → List (Content P O R) → L → ℕ → Entry O R → PassView P O R → WordStep S L P O R
   hand_on procs contents to tag entry v =
       let from = take procs contents in let onto = drop procs contents in record {
         event = Some (HandWith v.number (numbers_of from) (numbers_of onto) to entry);
@@ -347,7 +345,7 @@ module _ {S L P : Type 0} where
 
 module _ {L P : Type 0} where
   -- takes the cell out of its slot, and gives the empty slot back
-  abbrev pub lift : ℕ → Content P → PassView P → SlotStep L P
+  abbrev pub lift : {O R : Type 0} → ℕ → Content P O R → PassView P O R → SlotStep L P O R
   lift n content v = record {
     event = Some (AtCells (cells.Take v.number n));
     cell = n;
@@ -356,7 +354,7 @@ module _ {L P : Type 0} where
     after = took steps.Lift (lock_word n) 0 (lifted_view content v);
   }
 
-  abbrev pub give_back : ℕ → PassView P → SlotStep L P
+  abbrev pub give_back : {O R : Type 0} → ℕ → PassView P O R → SlotStep L P O R
   give_back n v = record {
     event = None;
     cell = n;
@@ -366,7 +364,7 @@ module _ {L P : Type 0} where
   }
 
   -- takes the empty slot of the cell, and gives it back with the cell in it
-  abbrev pub reach : ℕ → PassView P → SlotStep L P
+  abbrev pub reach : {O R : Type 0} → ℕ → PassView P O R → SlotStep L P O R
   reach n v = record {
     event = None;
     cell = n;
@@ -375,7 +373,7 @@ module _ {L P : Type 0} where
     after = took steps.Reach (lock_word n) 0 (reaching_view n v);
   }
 
-  abbrev pub put : ℕ → Content P → PassView P → SlotStep L P
+  abbrev pub put : {O R : Type 0} → ℕ → Content P O R → PassView P O R → SlotStep L P O R
   put n content v = record {
     event = Some (AtCells (cells.Put v.number n));
     cell = n;

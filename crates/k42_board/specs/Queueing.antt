@@ -54,16 +54,16 @@ abbrev pub pops_of : Row → List Carried → ℕ
 pops_of row views = sum_by (λ v. times row v.popped) views
 
 -- its places in the queue
-abbrev pub places_of : {P : Type 0} → Row → List (Slip P) → ℕ
+abbrev pub places_of : {P O R : Type 0} → Row → List (Slip P O R) → ℕ
 places_of row items = count_by (λ x. is_row row x.row) items
 
 -- a row with a seat of the table that names it
-pub record IsRetired {P : Type 0} (table : TableId) (x : Slip P) : Type 0 where
+pub record IsRetired {P O R : Type 0} (table : TableId) (x : Slip P O R) : Type 0 where
   pub ours : x.seat.table_id ≡ table
   pub named : x.seat.me ≡ (Named x.row, [])
 
 -- the rule of the queue
-pub record Carries {P : Type 0} (items : List (Slip P)) (views : List Carried) : Type 0 where
+pub record Carries {P O R : Type 0} (items : List (Slip P O R)) (views : List Carried) : Type 0 where
   -- all rows are of one table, of which the passes know
   pub table : TableId
   pub items_are : EachPlace (λ place x. IsRetired table x) items
@@ -89,14 +89,14 @@ fresh_carried v = carried_none v.tied (table_of v)
 
 -- what a push and a pop tell the pass
 
-abbrev pub Pushed : {P : Type 0} → Carried → Slip P → Carried → Type 0
+abbrev pub Pushed : {P O R : Type 0} → Carried → Slip P O R → Carried → Type 0
 Pushed v x w = w ≡ record v { pushed = v.pushed ++ x.row ∷ [] }
 
-abbrev pub Popped : {P : Type 0} → Carried → Slip P → Carried → Type 0
+abbrev pub Popped : {P O R : Type 0} → Carried → Slip P O R → Carried → Type 0
 Popped v x w = IsRetired (table_of v) x × (w ≡ record v { popped = v.popped ++ x.row ∷ [] })
 
 -- at one moment the queue had these items, and the pass this view
-abbrev pub IsRuled : {P : Type 0} → Carried → List (Slip P) → Type 0
+abbrev pub IsRuled : {P O R : Type 0} → Carried → List (Slip P O R) → Type 0
 IsRuled v items = (views : List Carried) × (i : ℕ) × (get_elem? views i ≡ some v) × Carries items views
 
 -- the pass knows that the queue's rows are of this table
@@ -112,46 +112,46 @@ abbrev pub older : List Row → List Row
 older rows = take (length rows - 1) rows
 
 -- of the rows that are left those are granted which were
-abbrev pub without_newest : {P : Type 0} → PassView P → PassView P
+abbrev pub without_newest : {P O R : Type 0} → PassView P O R → PassView P O R
 without_newest v = record v { rows = older v.rows; granted = min v.granted (length (older v.rows)) }
 
 -- the row is back, and so many more are granted
-abbrev pub with_again : {P : Type 0} → Row → ℕ → PassView P → PassView P
+abbrev pub with_again : {P O R : Type 0} → Row → ℕ → PassView P O R → PassView P O R
 with_again row more v = record v { rows = v.rows ++ row ∷ []; granted = v.granted + more }
 
-abbrev pub with_newest : {P : Type 0} → Row → PassView P → PassView P
+abbrev pub with_newest : {P O R : Type 0} → Row → PassView P O R → PassView P O R
 with_newest row v = record v { rows = v.rows ++ row ∷ [] }
 
-abbrev pub row_named : {P : Type 0} → View P → Row
+abbrev pub row_named : {P O R : Type 0} → View P O R → Row
 row_named (Named row) = row
 row_named view = record { object = 0; incarnation = 0 }
 
-abbrev pub keeps_older : {P : Type 0} → View P → View P
+abbrev pub keeps_older : {P O R : Type 0} → View P O R → View P O R
 keeps_older view = on_pass without_newest view
 
-abbrev pub names_newest : {P : Type 0} → View P → View P
+abbrev pub names_newest : {P O R : Type 0} → View P O R → View P O R
 names_newest view = Named (newest (pass_in view).rows)
 
-abbrev pub takes_back : {P : Type 0} → ℕ → View P → View P → View P
+abbrev pub takes_back : {P O R : Type 0} → ℕ → View P O R → View P O R → View P O R
 takes_back more view named = on_pass (with_again (row_named named) more) view
 
-abbrev pub takes_in : {P : Type 0} → View P → View P → View P
+abbrev pub takes_in : {P O R : Type 0} → View P O R → View P O R → View P O R
 takes_in view named = on_pass (with_newest (row_named named)) view
 
 -- the granted rows are below what the grace has noted
-abbrev pub AreGranted : {P : Type 0} → PassView P → ℕ → Type 0
+abbrev pub AreGranted : {P O R : Type 0} → PassView P O R → ℕ → Type 0
 AreGranted v found = EachPlace (λ place row. IsGranted v.visitor.noted row) (take v.granted v.rows)
 
 -- a pass holds each row once, and so not more than there are
 abbrev pub MOST_ROWS : ℕ
 MOST_ROWS = OBJECTS * LAST_INCARNATION
 
-abbrev pub HoldsFew : {P : Type 0} → PassView P → ℕ → Type 0
+abbrev pub HoldsFew : {P O R : Type 0} → PassView P O R → ℕ → Type 0
 HoldsFew v found = length v.rows ≤ MOST_ROWS
 
 -- what a pass is after it has pushed its newest row, or popped one
 
-pub record HasPushed {P : Type 0} (old new : PassSeen P) : Type 0 where
+pub record HasPushed {P O R : Type 0} (old new : PassSeen P O R) : Type 0 where
   pub table : new.table ≡ old.table
   pub seat : new.seat ≡ old.seat
   pub keep : new.keep ≡ old.keep
@@ -162,7 +162,7 @@ pub record HasPushed {P : Type 0} (old new : PassSeen P) : Type 0 where
   pub pushed : new.pushed ≡ old.pushed ++ newest old.view.rows ∷ []
   pub popped : new.popped ≡ old.popped
 
-pub record HasPopped {P : Type 0} (old new : PassSeen P) : Type 0 where
+pub record HasPopped {P O R : Type 0} (old new : PassSeen P O R) : Type 0 where
   pub row : Row
   pub table : new.table ≡ old.table
   pub seat : new.seat ≡ old.seat

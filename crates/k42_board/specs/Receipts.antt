@@ -15,21 +15,21 @@ after_first [] = []
 after_first (n ∷ cells) = cells
 
 -- the seat of the pass goes on without the first of the cells whose seats do not tell it yet
-abbrev pub telling : {P : Type 0} → View P → View P
+abbrev pub telling : {P O R : Type 0} → View P O R → View P O R
 telling (Crew (v ∷ [])) = Crew (untold_view (after_first v.untold) v ∷ [])
 telling view = view
 
 -- and a new seat tells of that cell what the pass has noted of it
-abbrev pub first_told : {P : Type 0} → List (Note P) → List ℕ → View P
+abbrev pub first_told : {P O R : Type 0} → List (Note P O R) → List ℕ → View P O R
 first_told notes [] = Spent
 first_told notes (n ∷ cells) = Kept (record { history = history_noted notes n; closed = closed_noted notes n })
 
-abbrev pub receipt : {P : Type 0} → View P → View P
+abbrev pub receipt : {P O R : Type 0} → View P O R → View P O R
 receipt (Crew (v ∷ [])) = first_told v.notes v.untold
 receipt view = Spent
 
 -- what a cell tells is due to it: whether it is closed, and the stamp of its last entry
-pub record IsDue {P : Type 0} (notes : List (Note P)) (n : ℕ) (is_closed : Bool) (last_drawn : ℕ) : Type 0 where
+pub record IsDue {P O R : Type 0} (notes : List (Note P O R)) (n : ℕ) (is_closed : Bool) (last_drawn : ℕ) : Type 0 where
   pub noted : names (cells_noted notes) n ≡ true
   pub closed : is_closed ≡ closed_noted notes n
   pub last : last_drawn ≡ last_stamp (history_noted notes n)
@@ -43,7 +43,7 @@ closed_due closes begins was = nat_lt 0 closes || (was && not begins)
 abbrev pub last_due : ℕ → ℕ → ℕ → ℕ
 last_due closes was stamp = if nat_lt 0 closes then was else stamp
 
-abbrev pub AreDue : {P : Type 0} → List (Note P) → ℕ → Bool → ℕ → List (Content P) → Type 0
+abbrev pub AreDue : {P O R : Type 0} → List (Note P O R) → ℕ → Bool → ℕ → List (Content P O R) → Type 0
 AreDue notes closes begins stamp [] = ⊤
 AreDue notes closes begins stamp (content ∷ contents) =
     IsDue notes content.number (closed_due closes begins content.closed) (last_due closes content.last stamp)

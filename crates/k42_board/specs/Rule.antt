@@ -30,9 +30,9 @@ pub record Beside (P : Type 0) : Type 0 where
   pub contents : Contents P
 
 -- no two passes of the list are of one caller
-abbrev pub AreApart : {P : Type 0} → List (PassView P) → Type 0
-AreApart {P} passes =
-    (i j : ℕ) (v w : PassView P) → slice_get passes i ≡ Some v → slice_get passes j ≡ Some w
+abbrev pub AreApart : {P O R : Type 0} → List (PassView P O R) → Type 0
+AreApart {P} {O} {R} passes =
+    (i j : ℕ) (v w : PassView P O R) → slice_get passes i ≡ Some v → slice_get passes j ≡ Some w
     → v.number ≡ w.number → i ≡ j
 
 -- no row stands twice in the list
@@ -45,9 +45,9 @@ pub record NamesRows {P : Type 0} (beside : Beside P) (id : ℕ) (rows : List Ro
   pub named : EachPlace (λ place row. beside.row_seat row ≡ id) rows
   pub once : AreOnce rows
 
-module _ {L P : Type 0} (tag_of : L → ℕ) (s : Joined L) (beside : Beside P) where
+module _ {L P O R : Type 0} (tag_of : L → ℕ) (s : Joined L O R) (beside : Beside P) where
   -- a pass knows its caller, which no other seat has
-  pub record KnowsPass (id : ℕ) (v : PassView P) : Type 0 where
+  pub record KnowsPass (id : ℕ) (v : PassView P O R) : Type 0 where
     pub there : v.number < many_callers s
     pub seat : beside.seat v.number ≡ id
     pub names : NamesRows beside id v.rows
@@ -56,7 +56,7 @@ module _ {L P : Type 0} (tag_of : L → ℕ) (s : Joined L) (beside : Beside P) 
     pub cells : KnowsCells s.turns beside.contents v
     pub trace : KnowsTrace tag_of s v
 
-  abbrev pub Knows : ℕ → View P → Type 0
+  abbrev pub Knows : ℕ → View P O R → Type 0
   Knows id (Crew passes) = AreApart passes × EachPlace (λ place v. KnowsPass id v) passes
   Knows id (Named row) = IsOld s.phases row × (beside.row_seat row ≡ id)
   Knows id (Drew stamp) = is_known s.turns stamp ≡ true
@@ -65,7 +65,7 @@ module _ {L P : Type 0} (tag_of : L → ℕ) (s : Joined L) (beside : Beside P) 
 
 -- the words and the slots are those of a state
 pub record Shows
-    {L P : Type 0} (s : Joined L) (beside : Beside P) (table : State (Slot P) (View P)) : Type 0 where
+    {L P O R : Type 0} (s : Joined L O R) (beside : Beside P) (table : State (Slot P O R) (View P O R)) : Type 0 where
   pub many_words : length table.words ≡ many_words
   pub many_slots : length table.homes ≡ many_slots
   pub few_objects : many_objects s ≤ OBJECTS
@@ -76,19 +76,19 @@ pub record Shows
       EachPlace (IsCellShown (many_procs s) table.words table.homes beside.contents) s.turns.cells
 
 pub record Rule
-    {S L P : Type 0} (F : Layouts S L P) (declared : List L) (table : State (Slot P) (View P))
+    {S L P O R : Type 0} (F : Layouts S L P O R) (declared : List L) (table : State (Slot P O R) (View P O R))
     : Type 0 where
-  pub state : Joined L
+  pub state : Joined L O R
   pub sound : IsSound F declared state
   pub beside : Beside P
   pub shows : Shows state beside table
   pub parts : (n : ℕ) → n < length state.turns.cells → IsPart F declared state n (beside.contents.part n)
   pub seats :
-      (id : ℕ) (view : View P) → get_elem? table.views id ≡ some view → Knows F.tag_of state beside id view
+      (id : ℕ) (view : View P O R) → get_elem? table.views id ≡ some view → Knows F.tag_of state beside id view
 
 -- and that of a table which was made for so many callers
 pub record Ruled
-    {S L P : Type 0} (F : Layouts S L P) (declared : List L) (callers : ℕ) (table : State (Slot P) (View P))
+    {S L P O R : Type 0} (F : Layouts S L P O R) (declared : List L) (callers : ℕ) (table : State (Slot P O R) (View P O R))
     : Type 0 where
   pub rule : Rule F declared table
   pub many : many_callers rule.state ≡ callers

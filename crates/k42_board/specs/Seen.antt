@@ -73,18 +73,18 @@ IsRoomLeft keeps.Sections old new = old ≤ new + 1
 IsRoomLeft keeps.Nothing old new = new ≡ old
 
 -- the entries that were given bear no stamp above that of the last section, and all others bear a greater one
-pub record IsParted (keep : Keeping) (mine : List Entry) : Type 0 where
+pub record IsParted {O R : Type 0} (keep : Keeping) (mine : List (Entry O R)) : Type 0 where
   pub few : keep.given ≤ length mine
   pub given : EachPlace (λ place entry. entry.stamp ≤ keep.since) (take keep.given mine)
   pub left : EachPlace (λ place entry. keep.since < entry.stamp) (drop keep.given mine)
 
 -- a pass: whose table's seat it has, which of its entries it keeps, what it knows, and for how many more entries and
 -- rows it has room
-pub record PassSeen (P : Type 0) : Type 0 where
+pub record PassSeen (P O R : Type 0) : Type 0 where
   pub table : TableId
   pub seat : ℕ
   pub keep : Keeping
-  pub view : PassView P
+  pub view : PassView P O R
   pub room : ℕ
   pub row_room : ℕ
   -- on which queue it is, and which rows it has pushed and popped there, the oldest first
@@ -112,7 +112,7 @@ pub record Own : Type 0 where
   pub rows : List Row
   pub granted : ℕ
 
-abbrev pub own_in : {P : Type 0} → PassView P → Own
+abbrev pub own_in : {P O R : Type 0} → PassView P O R → Own
 own_in v = record {
   number = v.number;
   turn = v.turn;
@@ -133,26 +133,26 @@ own_in v = record {
 }
 
 -- the seat has just this pass, and no slot is out with it
-abbrev pub IsSeatOf : {P : Type 0} → Seated P → PassView P → Type 0
+abbrev pub IsSeatOf : {P O R : Type 0} → Seated P O R → PassView P O R → Type 0
 IsSeatOf me v = me ≡ (Crew (v ∷ []), [])
 
 -- between two calls no slot is out with the pass, and each cell at which it drew tells so
-pub record Mirrors {P : Type 0} (me : Seated P) (own : Own) : Type 0 where
+pub record Mirrors {P O R : Type 0} (me : Seated P O R) (own : Own) : Type 0 where
   pub seat : IsSeatOf me (pass_in me.0)
   pub own_is : own ≡ own_in (pass_in me.0)
   pub out : (pass_in me.0).out ≡ None
   pub told : (pass_in me.0).untold ≡ []
 
 -- the pass has room for its next entry
-abbrev pub HasRoom : {P : Type 0} → PassSeen P → Type 0
+abbrev pub HasRoom : {P O R : Type 0} → PassSeen P O R → Type 0
 HasRoom pass = room_due pass.keep.what ≤ pass.room
 
 -- the pass has a seat of the system's table
-abbrev pub IsOf : {L P : Type 0} → SysSeen L → PassSeen P → Type 0
+abbrev pub IsOf : {L P O R : Type 0} → SysSeen L → PassSeen P O R → Type 0
 IsOf sys pass = pass.table ≡ sys.table
 
 -- and is of its processors and objects
-pub record IsPassOf {L P : Type 0} (sys : SysSeen L) (pass : PassSeen P) : Type 0 where
+pub record IsPassOf {L P O R : Type 0} (sys : SysSeen L) (pass : PassSeen P O R) : Type 0 where
   pub table : IsOf sys pass
   pub proc : pass.view.turn.proc < sys.procs
   pub waits : length pass.view.turn.waits ≡ sys.procs
@@ -162,7 +162,7 @@ pub record IsPassOf {L P : Type 0} (sys : SysSeen L) (pass : PassSeen P) : Type 
   pub keep : pass.keep.what ≡ sys.keep
 
 -- it has the same seat and the same room, and keeps the same
-pub record IsSamePass {P : Type 0} (old new : PassSeen P) : Type 0 where
+pub record IsSamePass {P O R : Type 0} (old new : PassSeen P O R) : Type 0 where
   pub table : new.table ≡ old.table
   pub seat : new.seat ≡ old.seat
   pub keep : new.keep ≡ old.keep
@@ -173,7 +173,7 @@ pub record IsSamePass {P : Type 0} (old new : PassSeen P) : Type 0 where
   pub popped : new.popped ≡ old.popped
 
 -- it has the same seat and the same room for entries, and keeps the same; for rows it has room as before, less what they need that are new
-pub record HasSameRoom {P : Type 0} (old new : PassSeen P) : Type 0 where
+pub record HasSameRoom {P O R : Type 0} (old new : PassSeen P O R) : Type 0 where
   pub table : new.table ≡ old.table
   pub seat : new.seat ≡ old.seat
   pub keep : new.keep ≡ old.keep
@@ -184,7 +184,7 @@ pub record HasSameRoom {P : Type 0} (old new : PassSeen P) : Type 0 where
   pub popped : new.popped ≡ old.popped
 
 -- it has room for no fewer entries and rows, and knows the same
-pub record IsRoomier {P : Type 0} (old new : PassSeen P) : Type 0 where
+pub record IsRoomier {P O R : Type 0} (old new : PassSeen P O R) : Type 0 where
   pub table : new.table ≡ old.table
   pub seat : new.seat ≡ old.seat
   pub keep : new.keep ≡ old.keep
@@ -201,7 +201,7 @@ is_tracked (Tracked o i) = true
 is_tracked place = false
 
 -- the row that its call is inside, and what it has learned of the row's layout
-abbrev pub inside_in : {P : Type 0} → PassView P → Inside
+abbrev pub inside_in : {P O R : Type 0} → PassView P O R → Inside
 inside_in v = record {
   object = swaps.object_of v.visitor.place;
   incarnation = swaps.row_of v.visitor.place;
@@ -210,5 +210,5 @@ inside_in v = record {
 }
 
 -- no activity, no grace and no swap is under way
-abbrev pub is_at_rest : {P : Type 0} → PassView P → Bool
+abbrev pub is_at_rest : {P O R : Type 0} → PassView P O R → Bool
 is_at_rest v = is_none v.turn.active && graces.is_idle v.turn.grace && swaps.is_idle v.visitor.swap

@@ -28,9 +28,9 @@ abbrev pub number_in : ℕ → ℕ
 number_in slot = slot % 40 * 8 + slot / 40
 
 -- each of the first slots has its cell, with no part
-abbrev pub AreFirstSlots : {P : Type 0} → List (Slot P) → Type 0
-AreFirstSlots {P} slots =
-    EachPlace (λ place slot. (c : Content P) × (slot ≡ Some c) × IsCell (number_in place) [] false None c) slots
+abbrev pub AreFirstSlots : {P O R : Type 0} → List (Slot P O R) → Type 0
+AreFirstSlots {P} {O} {R} slots =
+    EachPlace (λ place slot. (c : Content P O R) × (slot ≡ Some c) × IsCell (number_in place) [] false None c) slots
 
 -- what is asked of a start: the limits, callers on processors that are there, and no object that starts dead
 pub record IsStart
@@ -43,7 +43,7 @@ pub record IsStart
 
 -- a pass that has done nothing, with room for rows and for no entry
 pub record IsNewPass
-    {P : Type 0} (table : TableId) (queue : QueueId) (keep : Keep) (procs objects number home : ℕ) (pass : PassSeen P)
+    {P O R : Type 0} (table : TableId) (queue : QueueId) (keep : Keep) (procs objects number home : ℕ) (pass : PassSeen P O R)
     : Type 0 where
   pub ours : pass.table ≡ table
   pub keeps : pass.keep ≡ keeping keep
@@ -56,14 +56,14 @@ pub record IsNewPass
 
 -- a new pass for each of these processors
 pub record AreDealt
-    {P : Type 0} (table : TableId) (queue : QueueId) (keep : Keep) (procs objects : ℕ) (homes : List ℕ)
-    (passes : List (PassSeen P))
+    {P O R : Type 0} (table : TableId) (queue : QueueId) (keep : Keep) (procs objects : ℕ) (homes : List ℕ)
+    (passes : List (PassSeen P O R))
     : Type 0 where
   pub many : length passes ≡ length homes
   pub each : EachPlace (λ c pass. IsNewPass table queue keep procs objects c (slice_index homes c) pass) passes
 
 pub record IsStarted
-    {L P : Type 0} (layouts : List L) (procs : ℕ) (callers : List ℕ) (sys : SysSeen L) (passes : List (PassSeen P))
+    {L P O R : Type 0} (layouts : List L) (procs : ℕ) (callers : List ℕ) (sys : SysSeen L) (passes : List (PassSeen P O R))
     : Type 0 where
   pub procs_are : sys.procs ≡ procs
   pub layouts_are : sys.layouts ≡ layouts
@@ -73,8 +73,8 @@ pub record IsStarted
 
 -- the first passes are dealt, and the seat has the others
 pub record IsDealing
-    {P : Type 0} (table : TableId) (queue : QueueId) (keep : Keep) (procs objects : ℕ) (homes : List ℕ) (next : ℕ)
-    (seat : TableId) (me : Seated P) (passes : List (PassSeen P))
+    {P O R : Type 0} (table : TableId) (queue : QueueId) (keep : Keep) (procs objects : ℕ) (homes : List ℕ) (next : ℕ)
+    (seat : TableId) (me : Seated P O R) (passes : List (PassSeen P O R))
     : Type 0 where
   pub ours : seat ≡ table
   pub crew : me ≡ (Crew (new_passes procs objects next (drop next homes)), [])

@@ -24,59 +24,59 @@ use Rattle.k42_board.specs.declared.view.View.{View}
 
 -- A step on a word: which event it is, if it is one; which word it changes how; when it may be taken; what is so of the
 -- word that it finds; and what the pass knows after it.
-pub record WordStep (S L P : Type 0) : Type 1 where
-  pub event : Option (Event L)
+pub record WordStep (S L P O R : Type 0) : Type 1 where
+  pub event : Option (Event L O R)
   pub word : ℕ
   pub changed : ℕ → ℕ
-  pub May : Layouts S L P → List L → Type 0
+  pub May : Layouts S L P O R → List L → Type 0
   pub Finds : ℕ → Type 0
-  pub after : ℕ → PassView P
+  pub after : ℕ → PassView P O R
 
 -- A step that moves the slot of a cell: which event it is, if it is one; of which cell; what the pass has of slots, and
 -- how that changes; and what the pass knows after it.
-pub record SlotStep (L P : Type 0) : Type 0 where
-  pub event : Option (Event L)
+pub record SlotStep (L P O R : Type 0) : Type 0 where
+  pub event : Option (Event L O R)
   pub cell : ℕ
-  pub carried : List (ℕ × Slot P)
-  pub act : Act (Slot P)
-  pub after : PassView P
+  pub carried : List (ℕ × Slot P O R)
+  pub act : Act (Slot P O R)
+  pub after : PassView P O R
 
-module _ {S L P : Type 0} (F : Layouts S L P) (declared : List L) where
+module _ {S L P O R : Type 0} (F : Layouts S L P O R) (declared : List L) where
   -- it is this event, or the state stays
-  abbrev pub DoesEvent : Option (Event L) → ℕ → (ℕ → ℕ) → ℕ → PassView P → ℕ → PassView P → Type 0
+  abbrev pub DoesEvent : Option (Event L O R) → ℕ → (ℕ → ℕ) → ℕ → PassView P O R → ℕ → PassView P O R → Type 0
   DoesEvent None = StateStays F declared
   DoesEvent (Some event) = StepIs F declared event
 
   -- The pass v, which has the seat id, has taken the step, found this word by it, and is w then.
   pub record Takes
-      (step : PassView P → WordStep S L P) (id : ℕ) (v : PassView P) (found : ℕ) (w : PassView P)
+      (step : PassView P O R → WordStep S L P O R) (id : ℕ) (v : PassView P O R) (found : ℕ) (w : PassView P O R)
       : Type 0 where
     pub knows : w ≡ (step v).after found
     pub finds : (step v).Finds found
     pub event : DoesEvent (step v).event (step v).word (step v).changed id v found w
 
-  abbrev pub state_after : Option (Event L) → Joined L → Joined L
+  abbrev pub state_after : Option (Event L O R) → Joined L O R → Joined L O R
   state_after None s = s
   state_after (Some event) s = effect s event
 
-  abbrev pub MayHappen : Option (Event L) → Joined L → Type 0
+  abbrev pub MayHappen : Option (Event L O R) → Joined L O R → Type 0
   MayHappen None s = ⊤
   MayHappen (Some event) s = IsPossible F declared s event
 
   -- The same of a step that moves a slot.
-  pub record Moves (step : PassView P → SlotStep L P) (id : ℕ) (v w : PassView P) : Type 0 where
+  pub record Moves (step : PassView P O R → SlotStep L P O R) (id : ℕ) (v w : PassView P O R) : Type 0 where
     pub knows : w ≡ (step v).after
     pub possible : Always F declared id v (MayHappen (step v).event)
     pub event :
         ActIs F declared (state_after (step v).event) (lock_word (step v).cell) id (step v).carried v (step v).act w
 
 -- the layouts of a table
-abbrev pub layouts_by : {S L P : Type 0} → LayoutWords S L P → Setup L → Layouts S L P
+abbrev pub layouts_by : {S L P O R : Type 0} → LayoutWords S L P O R → Setup L → Layouts S L P O R
 layouts_by words key = layouts_of words key.procs key.callers.items
 
 -- the seat is of this table, whose layouts are lawful, and has one pass alone
 pub record IsOfTable
-    {S L P : Type 0} (words : LayoutWords S L P) (table : TableId) (key : Setup L) (seat : Seat (Slot P) (View P))
+    {S L P O R : Type 0} (words : LayoutWords S L P O R) (table : TableId) (key : Setup L) (seat : Seat (Slot P O R) (View P O R))
     : Type 0 where
   pub ours : seat.table_id ≡ table
   pub many : table.words ≡ many_words
@@ -85,16 +85,16 @@ pub record IsOfTable
 
 -- and the pass may take the step
 pub record MayTake
-    {S L P : Type 0} (words : LayoutWords S L P) (table : TableId) (key : Setup L)
-    (step : PassView P → WordStep S L P) (seat : Seat (Slot P) (View P))
+    {S L P O R : Type 0} (words : LayoutWords S L P O R) (table : TableId) (key : Setup L)
+    (step : PassView P O R → WordStep S L P O R) (seat : Seat (Slot P O R) (View P O R))
     : Type 0 where
   pub here : IsOfTable words table key seat
   pub may : (step (pass_in seat.me.0)).May (layouts_by words key) key.layouts.items
 
 -- It has taken it, and is the same seat.
 pub record HasTaken
-    {S L P : Type 0} (words : LayoutWords S L P) (key : Setup L)
-    (step : PassView P → WordStep S L P) (old : Seat (Slot P) (View P)) (found : ℕ) (new : Seat (Slot P) (View P))
+    {S L P O R : Type 0} (words : LayoutWords S L P O R) (key : Setup L)
+    (step : PassView P O R → WordStep S L P O R) (old : Seat (Slot P O R) (View P O R)) (found : ℕ) (new : Seat (Slot P O R) (View P O R))
     : Type 0 where
   pub table : new.table_id ≡ old.table_id
   pub seat : new.id ≡ old.id
@@ -104,8 +104,8 @@ pub record HasTaken
 
 -- It has moved a slot twice, out and back.
 pub record HasMovedTwice
-    {S L P : Type 0} (words : LayoutWords S L P) (key : Setup L)
-    (first second : PassView P → SlotStep L P) (old new : Seat (Slot P) (View P))
+    {S L P O R : Type 0} (words : LayoutWords S L P O R) (key : Setup L)
+    (first second : PassView P O R → SlotStep L P O R) (old new : Seat (Slot P O R) (View P O R))
     : Type 0 where
   pub table : new.table_id ≡ old.table_id
   pub seat : new.id ≡ old.id
@@ -117,41 +117,41 @@ pub record HasMovedTwice
 
 -- the seat's pass knows the cell that it has taken
 abbrev pub IsWholeIn :
-    {S L P : Type 0} → LayoutWords S L P → Setup L → ℕ → Content P → Seat (Slot P) (View P) → Type 0
+    {S L P O R : Type 0} → LayoutWords S L P O R → Setup L → ℕ → Content P O R → Seat (Slot P O R) (View P O R) → Type 0
 IsWholeIn words key n content seat =
     Always (layouts_by words key) key.layouts.items seat.id (pass_in seat.me.0)
     (IsWhole (layouts_by words key) key.layouts.items n content)
 
 -- The same of a pass of a system.
 
-abbrev pub layouts_in : {S L P : Type 0} → LayoutWords S L P → SysSeen L → Layouts S L P
+abbrev pub layouts_in : {S L P O R : Type 0} → LayoutWords S L P O R → SysSeen L → Layouts S L P O R
 layouts_in words sys = layouts_of words sys.procs sys.callers
 
 pub record MayStep
-    {S L P : Type 0} (words : LayoutWords S L P) (sys : SysSeen L) (step : PassView P → WordStep S L P) (pass : PassSeen P)
+    {S L P O R : Type 0} (words : LayoutWords S L P O R) (sys : SysSeen L) (step : PassView P O R → WordStep S L P O R) (pass : PassSeen P O R)
     : Type 0 where
   pub ours : IsOf sys pass
   pub may : (step pass.view).May (layouts_in words sys) sys.layouts
 
 abbrev pub TakesIn :
-    {S L P : Type 0} → LayoutWords S L P → SysSeen L → (PassView P → WordStep S L P) → PassSeen P → ℕ → PassSeen P → Type 0
+    {S L P O R : Type 0} → LayoutWords S L P O R → SysSeen L → (PassView P O R → WordStep S L P O R) → PassSeen P O R → ℕ → PassSeen P O R → Type 0
 TakesIn words sys step old found new = Takes (layouts_in words sys) sys.layouts step old.seat old.view found new.view
 
 pub record HasStepped
-    {S L P : Type 0} (words : LayoutWords S L P) (sys : SysSeen L)
-    (step : PassView P → WordStep S L P) (old : PassSeen P) (found : ℕ) (new : PassSeen P)
+    {S L P O R : Type 0} (words : LayoutWords S L P O R) (sys : SysSeen L)
+    (step : PassView P O R → WordStep S L P O R) (old : PassSeen P O R) (found : ℕ) (new : PassSeen P O R)
     : Type 0 where
   pub same : IsSamePass old new
   pub takes : TakesIn words sys step old found new
 
 -- by a step that tells nothing of the word that it found
 abbrev pub HasDone :
-    {S L P : Type 0} → LayoutWords S L P → SysSeen L → (PassView P → WordStep S L P) → PassSeen P → PassSeen P → Type 0
+    {S L P O R : Type 0} → LayoutWords S L P O R → SysSeen L → (PassView P O R → WordStep S L P O R) → PassSeen P O R → PassSeen P O R → Type 0
 HasDone words sys step old new = (found : ℕ) → HasStepped words sys step old found new
 
 pub record HasMoved
-    {S L P : Type 0} (words : LayoutWords S L P) (sys : SysSeen L)
-    (first second : PassView P → SlotStep L P) (old new : PassSeen P)
+    {S L P O R : Type 0} (words : LayoutWords S L P O R) (sys : SysSeen L)
+    (first second : PassView P O R → SlotStep L P O R) (old new : PassSeen P O R)
     : Type 0 where
   pub same : IsSamePass old new
   pub out :
@@ -161,8 +161,8 @@ pub record HasMoved
 
 -- It has drawn an entry, has room for one less, and these cells have been told of it.
 pub record HasDrawn
-    {S L P : Type 0} (words : LayoutWords S L P) (sys : SysSeen L)
-    (step : PassView P → WordStep S L P) (cells : List ℕ) (old new : PassSeen P)
+    {S L P O R : Type 0} (words : LayoutWords S L P O R) (sys : SysSeen L)
+    (step : PassView P O R → WordStep S L P O R) (cells : List ℕ) (old new : PassSeen P O R)
     : Type 0 where
   pub drawer : IsDrawer old new
   pub knows : new.view ≡ untold_view [] ((step old.view).after 0)
@@ -171,5 +171,5 @@ pub record HasDrawn
       → Takes (layouts_in words sys) sys.layouts step old.seat old.view found (untold_view cells new.view)
 
 -- in every state that the table shows while the pass knows what it knows now
-abbrev pub AlwaysIn : {S L P : Type 0} → LayoutWords S L P → SysSeen L → PassSeen P → (Joined L → Type 0) → Type 0
+abbrev pub AlwaysIn : {S L P O R : Type 0} → LayoutWords S L P O R → SysSeen L → PassSeen P O R → (Joined L O R → Type 0) → Type 0
 AlwaysIn words sys pass Q = Always (layouts_in words sys) sys.layouts pass.seat pass.view Q

@@ -16,14 +16,14 @@ use Rattle.k42_board.specs.declared.view.PassView.{PassView}
 use Rattle.k42_board.specs.declared.view.Row.{Row}
 
 -- the object that the pass swaps
-abbrev pub object_swapped : {P : Type 0} → PassView P → ℕ
+abbrev pub object_swapped : {P O R : Type 0} → PassView P O R → ℕ
 object_swapped v = object_named v.visitor.swap
 
-abbrev pub at_swap : {P : Type 0} → PassView P → SwapAt → PassView P
+abbrev pub at_swap : {P O R : Type 0} → PassView P O R → SwapAt → PassView P O R
 at_swap v swap = record v { visitor = at_stage v.visitor swap }
 
 -- the present incarnation of the object that the pass swaps
-abbrev pub incarnation_swapped : {P : Type 0} → PassView P → ℕ
+abbrev pub incarnation_swapped : {P O R : Type 0} → PassView P O R → ℕ
 incarnation_swapped v = incarnation_in (word_begun v.last) + (if v.turned then 1 else 0)
 
 -- the processor whose entry is changed next, and the stage after that, of so many processors
@@ -42,11 +42,11 @@ after_entry procs (Opening o p) = after_open o p procs
 after_entry procs (Reopening o p) = after_reopen o p procs
 after_entry procs swap = swap
 
-abbrev pub MayChangeEntry : {P : Type 0} → ℕ → PassView P → Type 0
+abbrev pub MayChangeEntry : {P O R : Type 0} → ℕ → PassView P O R → Type 0
 MayChangeEntry p v = next_entry v.visitor.swap ≡ Some p
 
 -- a mediator while it interposes, and empty while it opens
-abbrev pub entry_after : {P : Type 0} → PassView P → ℕ
+abbrev pub entry_after : {P O R : Type 0} → PassView P O R → ℕ
 entry_after v =
     local_value
     (if is_interposing v.visitor.swap
@@ -56,59 +56,59 @@ entry_after v =
 abbrev pub entry_event : ℕ → SwapAt → Event
 entry_event c swap = if is_interposing swap then Interpose c else Open c
 
-abbrev pub changed_view : {P : Type 0} → PassView P → PassView P
+abbrev pub changed_view : {P O R : Type 0} → PassView P O R → PassView P O R
 changed_view v = at_swap v (after_entry (length v.turn.waits) v.visitor.swap)
 
 -- its swap is drained, and its grace over
-pub record MayBlock {P : Type 0} (v : PassView P) : Type 0 where
+pub record MayBlock {P O R : Type 0} (v : PassView P O R) : Type 0 where
   pub drained : is_drained v.visitor.swap ≡ true
   pub idle : graces.is_idle v.turn.grace ≡ true
 
-abbrev pub blocked_view : {P : Type 0} → PassView P → PassView P
+abbrev pub blocked_view : {P O R : Type 0} → PassView P O R → PassView P O R
 blocked_view v = at_swap v (Blocking (object_swapped v))
 
-abbrev pub MayMove : {P : Type 0} → PassView P → Type 0
+abbrev pub MayMove : {P O R : Type 0} → PassView P O R → Type 0
 MayMove v = is_blocking v.visitor.swap ≡ true
 
 -- the word of its object while it blocks and nobody is counted
-abbrev pub blocked_word : {P : Type 0} → PassView P → ℕ
+abbrev pub blocked_word : {P O R : Type 0} → PassView P O R → ℕ
 blocked_word v =
     2 ^ 24 * 3 + 2 ^ 28 * layout_in (word_begun v.last) + 2 ^ 32 * incarnation_in (word_begun v.last)
 
-abbrev pub moves : {P : Type 0} → PassView P → ℕ → ℕ
+abbrev pub moves : {P O R : Type 0} → PassView P O R → ℕ → ℕ
 moves v word = if word == blocked_word v then blocked_word v + 2 ^ 26 else word
 
-abbrev pub moved_view : {P : Type 0} → ℕ → PassView P → PassView P
+abbrev pub moved_view : {P O R : Type 0} → ℕ → PassView P O R → PassView P O R
 moved_view found v = if found == blocked_word v then at_swap v (Moved (object_swapped v)) else v
 
 -- the word has the callers that are counted
-pub record CountFound {P : Type 0} (v : PassView P) (found : ℕ) : Type 0 where
+pub record CountFound {P O R : Type 0} (v : PassView P O R) (found : ℕ) : Type 0 where
   pub counted : found ≡ blocked_word v + count_in found
   pub few : count_in found ≤ CALLERS
 
 -- it has handed the row on with a layout of this tag, and holds no cell
-pub record MayTurnOver {P : Type 0} (tag : ℕ) (v : PassView P) : Type 0 where
+pub record MayTurnOver {P O R : Type 0} (tag : ℕ) (v : PassView P O R) : Type 0 where
   pub moved : is_moved v.visitor.swap ≡ true
   pub handed : v.handed ≡ Some tag
   pub known : tag ≤ 2
   pub free : holds_none v.taker.held ≡ true
 
 -- what is added to the word: one incarnation, COMPLETE for BLOCK and MOVE, and the new layout for the old
-abbrev pub turn_amount : {P : Type 0} → ℕ → PassView P → ℕ
+abbrev pub turn_amount : {P O R : Type 0} → ℕ → PassView P O R → ℕ
 turn_amount tag v = 2 ^ 32 + 2 ^ 28 * tag + 2 ^ 25 - 2 ^ 28 * layout_in (word_begun v.last)
 
-abbrev pub turned_view : {P : Type 0} → PassView P → PassView P
+abbrev pub turned_view : {P O R : Type 0} → PassView P O R → PassView P O R
 turned_view v = record (at_swap v (Opening (object_swapped v) 0)) { turned = true; handed = None }
 
 -- Its begin was refused, or it gives up what it moves and has not handed on, or it has opened all entries, and
 -- has drawn its Abandoned where it had given up.
-abbrev pub MayClearAt : {P : Type 0} → SwapAt → PassView P → Type 0
+abbrev pub MayClearAt : {P O R : Type 0} → SwapAt → PassView P O R → Type 0
 MayClearAt (Refused o) v = Unit {0}
 MayClearAt (Moved o) v = (v.handed ≡ None) × (holds_none v.taker.held ≡ true)
 MayClearAt (Opened o) v = (v.turned ≡ true) ⊎ (v.abandoned ≡ true)
 MayClearAt swap v = ⊥
 
-abbrev pub MayClear : {P : Type 0} → PassView P → Type 0
+abbrev pub MayClear : {P O R : Type 0} → PassView P O R → Type 0
 MayClear v = MayClearAt v.visitor.swap v
 
 abbrev pub clear_event : ℕ → SwapAt → Event
@@ -132,19 +132,19 @@ pub record IsRestored (begun word : ℕ) : Type 0 where
   pub complete : has_bit word 27 ≡ false
 
 -- where a swap ends that has not turned its object over, the object is as it was when the swap began
-abbrev pub ClearFound : {P : Type 0} → PassView P → ℕ → Type 0
+abbrev pub ClearFound : {P O R : Type 0} → PassView P O R → ℕ → Type 0
 ClearFound v found =
     v.visitor.swap ≡ Opened (object_swapped v) → v.turned ≡ false
     → IsRestored (word_begun v.last) (clears v.visitor.swap found)
 
 -- the row that it has handed on and turned over
-abbrev pub rows_ended : {P : Type 0} → PassView P → List Row
+abbrev pub rows_ended : {P O R : Type 0} → PassView P O R → List Row
 rows_ended v =
     if v.turned
     then v.rows ++ record { object = object_swapped v; incarnation = incarnation_in (word_begun v.last) } ∷ []
     else v.rows
 
-abbrev pub cleared_view : {P : Type 0} → PassView P → PassView P
+abbrev pub cleared_view : {P O R : Type 0} → PassView P O R → PassView P O R
 cleared_view v =
     if is_moved v.visitor.swap
     then record (at_swap v (Reopening (object_swapped v) 0)) { abandoned = false }

@@ -15,16 +15,16 @@ use Rattle.k42_board.specs.Views.{kept_in, word_begun, object_begun}
 use Rattle.k42_board.specs.declared.view.PassView.{PassView}
 
 -- the entry's generation is not above that of the processor
-abbrev pub IsOfTime : Generations → ℕ → Entry → Type 0
+abbrev pub IsOfTime : {O R : Type 0} → Generations → ℕ → Entry O R → Type 0
 IsOfTime g p entry = (generation : ℕ) → entry.generation ≡ Some generation → generation ≤ (proc_at g p).generation
 
-pub record KnowsTrace {L P : Type 0} (tag_of : L → ℕ) (s : Joined L) (v : PassView P) : Type 0 where
+pub record KnowsTrace {L P O R : Type 0} (tag_of : L → ℕ) (s : Joined L O R) (v : PassView P O R) : Type 0 where
   pub kept : kept_of s v.number ≡ kept_in v
   -- what is kept of its last Begin is what the word that it found answers
-  pub found : (answer : Answer) → v.found ≡ Some answer → answer_in (word_begun v.last) ≡ Some answer
+  pub found : (answer : Answer R) → v.found ≡ Some answer → answer_in (word_begun v.last) ≡ Some answer
   -- and where that tells of an object which is over, the object stays so
   pub over :
-      (answer : Answer) → v.found ≡ Some answer → tells_over answer ≡ true
+      (answer : Answer R) → v.found ≡ Some answer → tells_over answer ≡ true
       → incarnation_in (word_begun v.last) ≡ incarnation s (object_begun v.last)
   -- it keeps the tag of a layout just from its hand until it turns over
   pub handed :

@@ -46,7 +46,7 @@ abbrev pub incarnation_in : ℕ → ℕ
 incarnation_in word = word / 2 ^ 32
 
 -- what an object's word answers to a Begin: nothing where the swap may go on
-abbrev pub answer_in : ℕ → Option Answer
+abbrev pub answer_in : {R : Type 0} → ℕ → Option (Answer R)
 answer_in word =
     if layout_in word == 2 then Some Gone
     else if incarnation_in word == LAST_INCARNATION then Some Spent

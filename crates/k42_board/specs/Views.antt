@@ -24,11 +24,11 @@ object_begun None = 0
 object_begun (Some begin) = begin.object
 
 -- what the joined machine keeps of the pass
-abbrev pub kept_in : {P : Type 0} → PassView P → Kept
+abbrev pub kept_in : {P O R : Type 0} → PassView P O R → Kept R
 kept_in v = record { begun = begun_of v.last; found = v.found; abandoned = v.abandoned }
 
 -- of a caller that has done nothing
-abbrev pub new_pass : {P : Type 0} → ℕ → ℕ → ℕ → ℕ → PassView P
+abbrev pub new_pass : {P O R : Type 0} → ℕ → ℕ → ℕ → ℕ → PassView P O R
 new_pass procs objects number home = record {
   number = number;
   turn = fresh_caller procs home;
@@ -51,16 +51,16 @@ new_pass procs objects number home = record {
 }
 
 -- the pass that alone has the view of a seat
-abbrev pub pass_in : {P : Type 0} → View P → PassView P
+abbrev pub pass_in : {P O R : Type 0} → View P O R → PassView P O R
 pass_in (Crew (v ∷ [])) = v
 pass_in view = new_pass 0 0 0 0
 
 -- the callers on these processors, counted from a first one
-abbrev pub new_passes : {P : Type 0} → ℕ → ℕ → ℕ → List ℕ → List (PassView P)
+abbrev pub new_passes : {P O R : Type 0} → ℕ → ℕ → ℕ → List ℕ → List (PassView P O R)
 new_passes procs objects first [] = []
 new_passes procs objects first (home ∷ homes) =
     new_pass procs objects first home ∷ new_passes procs objects (first + 1) homes
 
 -- the seat of a new table has all callers
-abbrev pub first_view : {L P : Type 0} → ℕ → List L → List ℕ → View P
+abbrev pub first_view : {L P O R : Type 0} → ℕ → List L → List ℕ → View P O R
 first_view procs layouts callers = Crew (new_passes procs (length layouts) 0 callers)

@@ -3,7 +3,7 @@ use crate::cell::Cell;
 use crate::setup::Setup;
 use crate::view::View;
 use atomic_table::{Seat, Table, TableRule};
-use k42_kinds::Layout;
+use k42_kinds::{Kind, Layout};
 use std::alloc::Global;
 use std::marker::PhantomData;
 
@@ -11,7 +11,7 @@ pub struct Ruling<L> {
     layout: PhantomData<L>,
 }
 
-impl<L: Layout> TableRule<Option<Cell<L>>, View<L::Part>, Setup<L>> for Ruling<L> {
+impl<L: Layout> TableRule<Option<Cell<L>>, View<L::Part, L::Op, L::Reply>, Setup<L>> for Ruling<L> {
     ghost use Rattle.std.specs.Prelude.{length};
     ghost use Rattle.k42_board.specs.Plan.{layouts_on};
     ghost use Rattle.k42_board.specs.Rule.{Ruled};
@@ -24,6 +24,15 @@ impl<L: Layout> TableRule<Option<Cell<L>>, View<L::Part>, Setup<L>> for Ruling<L
     ghost first = { λ key. first_view key.procs key.layouts.items key.callers.items };
 }
 
-pub type Board<L> = Table<Option<Cell<L>>, View<<L as Layout>::Part>, Setup<L>, Ruling<L>, Global>;
+pub type Board<L> = Table<
+    Option<Cell<L>>,
+    View<<L as Layout>::Part, <L as Kind>::Op, <L as Kind>::Reply>,
+    Setup<L>,
+    Ruling<L>,
+    Global,
+>;
 
-pub type BoardSeat<L> = Seat<Option<Cell<L>>, View<<L as Layout>::Part>>;
+pub type BoardSeat<L> = Seat<
+    Option<Cell<L>>,
+    View<<L as Layout>::Part, <L as Kind>::Op, <L as Kind>::Reply>,
+>;

@@ -5,13 +5,13 @@ ghost use Rattle.k42_board.specs.Seats.{IsTold};
 
 use crate::view::View;
 use atomic_table::Badge;
-use k42_kinds::Layout;
+use k42_kinds::{Kind, Layout};
 
 /// A place for a part. The caller that holds it moves it through its slot.
 #[derive(Drop)]
-pub struct Content<P: Drop> {
+pub struct Content<P: Drop, O, R> {
     /// Blank until the first entry is drawn at it.
-    pub(crate) badge: Badge<View<P>>,
+    pub(crate) badge: Badge<View<P, O, R>>,
     pub(crate) number: u32,
     pub(crate) closed: bool,
     /// The stamp of the last entry of its history.
@@ -22,9 +22,9 @@ pub struct Content<P: Drop> {
     ghost few: { number < 320 },
 }
 
-pub type Cell<L> = Content<<L as Layout>::Part>;
+pub type Cell<L> = Content<<L as Layout>::Part, <L as Kind>::Op, <L as Kind>::Reply>;
 
-impl<P: Drop> Content<P> {
+impl<P: Drop, O, R> Content<P, O, R> {
     /// `(object * 2 + incarnation % 2) * 8 + place`.
     pub fn number(&self) -> u32
         ensures { result ≡ self.now.number }
@@ -64,7 +64,7 @@ impl<P: Drop> Content<P> {
     }
 
     /// Is told of the last entry that was drawn at it.
-    pub fn tell(&mut self, badge: Badge<View<P>>, closed: bool, last: u64)
+    pub fn tell(&mut self, badge: Badge<View<P, O, R>>, closed: bool, last: u64)
         requires { IsTold closed last badge.views }
         ensures number { self.new.number ≡ self.old.number }
         ensures part { self.new.part ≡ self.old.part }

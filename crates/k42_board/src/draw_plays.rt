@@ -5,19 +5,19 @@ use atomic_table::{Play, Split};
 use std::marker::{Brand, PhantomData};
 
 /// What becomes of the pass. A draw names its entry, which no word has, so the call that draws picks it.
-pub trait Said<P> {
+pub trait Said<P, O, R> {
     ghost use Rattle.k42_board.specs.declared.view.PassView.{PassView};
 
-    ghost becomes: { PassView P → PassView P };
+    ghost becomes: { PassView P O R → PassView P O R };
 }
 
-impl<P> Said<P> for Brand {
+impl<P, O, R> Said<P, O, R> for Brand {
     ghost becomes = { λ v. v };
 }
 
 pub(crate) struct Draw<K>(PhantomData<K>);
 
-impl<P: Drop, K: Said<P>> Play<Option<Content<P>>, View<P>> for Draw<K> {
+impl<P: Drop, O, R, K: Said<P, O, R>> Play<Option<Content<P, O, R>>, View<P, O, R>> for Draw<K> {
     ghost use Rattle.k42_board.specs.Drawing.{HasSmallStamp};
     ghost use Rattle.k42_board.specs.Log.{took};
     ghost use Rattle.k42_board.specs.Steps.{TellsWith};
@@ -28,7 +28,7 @@ impl<P: Drop, K: Said<P>> Play<Option<Content<P>>, View<P>> for Draw<K> {
 
 pub(crate) struct Receipt;
 
-impl<P> Split<View<P>> for Receipt {
+impl<P, O, R> Split<View<P, O, R>> for Receipt {
     ghost use Rattle.k42_board.specs.Receipts.{telling, receipt};
 
     ghost left = { telling };

@@ -10,12 +10,12 @@ use crate::board::{Board, BoardSeat};
 use crate::cell::{Cell, Content};
 use crate::draw_plays::{Draw, Said};
 use crate::encoding::{ROLE_WORD, lock_word};
-use k42_kinds::{Entry, Layout, Op, Reply};
+use k42_kinds::{Entry, Layout};
 
-pub fn alone_word<L: Layout, K: Said<L::Part>>(
+pub fn alone_word<L: Layout, K: Said<L::Part, L::Op, L::Reply>>(
     board: &Board<L>,
     seat: &mut BoardSeat<L>,
-    entry: &Entry,
+    entry: &Entry<L::Op, L::Reply>,
 )
     requires says { K.becomes ≡ alone_view entry.now }
     requires may { MayTake L.Layout board.now.shared.table_id board.now.shared.key (protocol.draw_alone entry.now) seat.old }
@@ -24,11 +24,11 @@ pub fn alone_word<L: Layout, K: Said<L::Part>>(
     board.shared.load::<Draw<K>>(seat, ROLE_WORD);
 }
 
-pub fn mark_word<L: Layout, K: Said<L::Part>>(
+pub fn mark_word<L: Layout, K: Said<L::Part, L::Op, L::Reply>>(
     board: &Board<L>,
     seat: &mut BoardSeat<L>,
     cell: &Cell<L>,
-    entry: &Entry,
+    entry: &Entry<L::Op, L::Reply>,
 )
     requires says { K.becomes ≡ draws_at (cell.now ∷ []) entry.now }
     requires may { MayTake L.Layout board.now.shared.table_id board.now.shared.key (protocol.draw_mark cell.now entry.now) seat.old }
@@ -40,12 +40,12 @@ pub fn mark_word<L: Layout, K: Said<L::Part>>(
 
 /// The entry is the pass's next one, of this operation with this reply. Nothing is made of them here.
 #[inline(always)]
-pub fn call_word<L: Layout, K: Said<L::Part>>(
+pub fn call_word<L: Layout, K: Said<L::Part, L::Op, L::Reply>>(
     board: &Board<L>,
     seat: &mut BoardSeat<L>,
     cells: &[Cell<L>],
-    op: &Op,
-    reply: &Reply,
+    op: &L::Op,
+    reply: &L::Reply,
 )
     requires agree { AgreeOn (layouts_by L.Layout board.now.shared.key) }
     requires says { K.becomes ≡ draws_at cells.now (entry_at cells.now op.now reply.now (pass_in seat.old.me.0)) }
@@ -58,12 +58,12 @@ pub fn call_word<L: Layout, K: Said<L::Part>>(
 
 /// The same at one cell.
 #[inline(always)]
-pub fn one_word<L: Layout, K: Said<L::Part>>(
+pub fn one_word<L: Layout, K: Said<L::Part, L::Op, L::Reply>>(
     board: &Board<L>,
     seat: &mut BoardSeat<L>,
     cell: &Cell<L>,
-    op: &Op,
-    reply: &Reply,
+    op: &L::Op,
+    reply: &L::Reply,
 )
     requires agree { AgreeOn (layouts_by L.Layout board.now.shared.key) }
     requires says { K.becomes ≡ draws_at (cell.now ∷ []) (entry_at (cell.now ∷ []) op.now reply.now (pass_in seat.old.me.0)) }
@@ -75,7 +75,7 @@ pub fn one_word<L: Layout, K: Said<L::Part>>(
 }
 
 /// The number of the first cell.
-pub fn first_of<P: Drop>(cells: &[Content<P>]) -> u32
+pub fn first_of<P: Drop, O, R>(cells: &[Content<P, O, R>]) -> u32
     ensures first { result ≡ first_cell (numbers_of cells.now) }
     ensures few { result < 320 }
 {

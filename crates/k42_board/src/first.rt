@@ -23,7 +23,7 @@ pub fn first_words<L: Layout>(alloc: Global, layouts: &[L]) -> Result<Vec<u64>, 
     Ok(words)
 }
 
-pub fn first_slots<P: Drop>(alloc: Global) -> Result<Vec<Option<Content<P>>>, Memory>
+pub fn first_slots<P: Drop, O, R>(alloc: Global) -> Result<Vec<Option<Content<P, O, R>>>, Memory>
     ensures { IfOk result (λ slots. (length slots.items ≡ many_slots) × AreFirstSlots slots.items) }
 {
     let mut slots = Vec::new(alloc);

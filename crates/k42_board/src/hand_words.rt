@@ -13,7 +13,7 @@ use crate::encoding::lock_word;
 use k42_kinds::{Entry, Layout};
 
 /// The number of the cell at this place, or 0.
-pub fn number_at<P: Drop>(cells: &[Content<P>], place: usize) -> u32
+pub fn number_at<P: Drop, O, R>(cells: &[Content<P, O, R>], place: usize) -> u32
     ensures is { result ≡ first_cell (numbers_of (drop place cells.now)) }
     ensures few { result < 320 }
 {
@@ -23,12 +23,12 @@ pub fn number_at<P: Drop>(cells: &[Content<P>], place: usize) -> u32
     }
 }
 
-pub fn hand_word<L: Layout, K: Said<L::Part>>(
+pub fn hand_word<L: Layout, K: Said<L::Part, L::Op, L::Reply>>(
     board: &Board<L>,
     seat: &mut BoardSeat<L>,
     cells: &[Cell<L>],
     to: &L,
-    entry: &Entry,
+    entry: &Entry<L::Op, L::Reply>,
 )
     requires says { K.becomes ≡ hands_at (take board.now.shared.key.procs cells.now) (drop board.now.shared.key.procs cells.now) entry.now (L.tag_of to.now) }
     requires may { MayTake L.Layout board.now.shared.table_id board.now.shared.key (protocol.hand_on board.now.shared.key.procs cells.now to.now (L.tag_of to.now) entry.now) seat.old }

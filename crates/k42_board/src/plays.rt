@@ -5,7 +5,7 @@ use atomic_table::{Join, Play, Split};
 
 pub(crate) struct Enter;
 
-impl<P: Drop> Play<Option<Content<P>>, View<P>> for Enter {
+impl<P: Drop, O, R> Play<Option<Content<P, O, R>>, View<P, O, R>> for Enter {
     ghost use Rattle.k42_board.specs.Generating.{entered_view, EnteredFound};
     ghost use Rattle.k42_board.specs.Log.{took};
     ghost use Rattle.k42_board.specs.Steps.{TellsWith};
@@ -16,7 +16,7 @@ impl<P: Drop> Play<Option<Content<P>>, View<P>> for Enter {
 
 pub(crate) struct Leave;
 
-impl<P: Drop> Play<Option<Content<P>>, View<P>> for Leave {
+impl<P: Drop, O, R> Play<Option<Content<P, O, R>>, View<P, O, R>> for Leave {
     ghost use Rattle.k42_board.specs.Generating.{left_view};
     ghost use Rattle.k42_board.specs.Log.{took};
     ghost use Rattle.k42_board.specs.Steps.{Tells};
@@ -27,7 +27,7 @@ impl<P: Drop> Play<Option<Content<P>>, View<P>> for Leave {
 
 pub(crate) struct TakeRole;
 
-impl<P: Drop> Play<Option<Content<P>>, View<P>> for TakeRole {
+impl<P: Drop, O, R> Play<Option<Content<P, O, R>>, View<P, O, R>> for TakeRole {
     ghost use Rattle.k42_board.specs.Gracing.{role_view, RoleFound};
     ghost use Rattle.k42_board.specs.Log.{took};
     ghost use Rattle.k42_board.specs.Steps.{TellsWith};
@@ -38,7 +38,7 @@ impl<P: Drop> Play<Option<Content<P>>, View<P>> for TakeRole {
 
 pub(crate) struct AskGeneration;
 
-impl<P: Drop> Play<Option<Content<P>>, View<P>> for AskGeneration {
+impl<P: Drop, O, R> Play<Option<Content<P, O, R>>, View<P, O, R>> for AskGeneration {
     ghost use Rattle.k42_board.specs.Gracing.{asked_view, GenerationFound};
     ghost use Rattle.k42_board.specs.Log.{took};
     ghost use Rattle.k42_board.specs.Steps.{TellsWith};
@@ -49,7 +49,7 @@ impl<P: Drop> Play<Option<Content<P>>, View<P>> for AskGeneration {
 
 pub(crate) struct Look;
 
-impl<P: Drop> Play<Option<Content<P>>, View<P>> for Look {
+impl<P: Drop, O, R> Play<Option<Content<P, O, R>>, View<P, O, R>> for Look {
     ghost use Rattle.k42_board.specs.Gracing.{looked_view, ExitsFound};
     ghost use Rattle.k42_board.specs.Log.{took};
     ghost use Rattle.k42_board.specs.Steps.{TellsWith};
@@ -60,7 +60,7 @@ impl<P: Drop> Play<Option<Content<P>>, View<P>> for Look {
 
 pub(crate) struct Flip;
 
-impl<P: Drop> Play<Option<Content<P>>, View<P>> for Flip {
+impl<P: Drop, O, R> Play<Option<Content<P, O, R>>, View<P, O, R>> for Flip {
     ghost use Rattle.k42_board.specs.Gracing.{flipped_view};
     ghost use Rattle.k42_board.specs.Log.{took};
     ghost use Rattle.k42_board.specs.Steps.{Tells};
@@ -71,7 +71,7 @@ impl<P: Drop> Play<Option<Content<P>>, View<P>> for Flip {
 
 pub(crate) struct GiveRole;
 
-impl<P: Drop> Play<Option<Content<P>>, View<P>> for GiveRole {
+impl<P: Drop, O, R> Play<Option<Content<P, O, R>>, View<P, O, R>> for GiveRole {
     ghost use Rattle.k42_board.specs.Gracing.{given_view, RowsGiven};
     ghost use Rattle.k42_board.specs.Log.{took};
     ghost use Rattle.k42_board.specs.Steps.{TellsWith};
@@ -82,7 +82,7 @@ impl<P: Drop> Play<Option<Content<P>>, View<P>> for GiveRole {
 
 pub(crate) struct Free;
 
-impl<P: Drop> Play<Option<Content<P>>, View<P>> for Free {
+impl<P: Drop, O, R> Play<Option<Content<P, O, R>>, View<P, O, R>> for Free {
     ghost use Rattle.k42_board.specs.Freeing.{freed_view, MarkFound};
     ghost use Rattle.k42_board.specs.Log.{took};
     ghost use Rattle.k42_board.specs.Steps.{TellsWith};
@@ -94,7 +94,7 @@ impl<P: Drop> Play<Option<Content<P>>, View<P>> for Free {
 
 pub(crate) struct TellClock;
 
-impl<P> Split<View<P>> for TellClock {
+impl<P, O, R> Split<View<P, O, R>> for TellClock {
     ghost use Rattle.k42_board.specs.Skipping.{clock_told};
 
     ghost left = { λ view. view };
@@ -104,7 +104,7 @@ impl<P> Split<View<P>> for TellClock {
 
 pub(crate) struct Skip;
 
-impl<P> Join<View<P>> for Skip {
+impl<P, O, R> Join<View<P, O, R>> for Skip {
     ghost use Rattle.k42_board.specs.Skipping.{skipping};
     ghost use Rattle.k42_board.specs.declared.view.View.TheVariants.{Spent};
 
@@ -115,7 +115,7 @@ impl<P> Join<View<P>> for Skip {
 
 pub struct Deal;
 
-impl<P> Split<View<P>> for Deal {
+impl<P, O, R> Split<View<P, O, R>> for Deal {
     ghost use Rattle.k42_board.specs.Dealing.{dealer, dealt};
 
     ghost left = { dealer };
@@ -125,7 +125,7 @@ impl<P> Split<View<P>> for Deal {
 
 pub struct Gather;
 
-impl<P> Join<View<P>> for Gather {
+impl<P, O, R> Join<View<P, O, R>> for Gather {
     ghost use Rattle.k42_board.specs.Dealing.{both_crews};
     ghost use Rattle.k42_board.specs.declared.view.View.TheVariants.{Spent};
 

@@ -22,7 +22,7 @@ use std::marker::{Brand, PhantomData};
 /// The rule of the queue.
 pub struct Rows;
 
-impl<P: Drop> Protocol<Slip<P>, Carried> for Rows {
+impl<P: Drop, O, R> Protocol<Slip<P, O, R>, Carried> for Rows {
     ghost use Rattle.std.specs.Prelude.{false};
     ghost use Rattle.k42_board.specs.Queueing.{Carries, carried_none, no_table};
 
@@ -31,16 +31,16 @@ impl<P: Drop> Protocol<Slip<P>, Carried> for Rows {
     ghost first = { carried_none false no_table };
 }
 
-pub type Line<P> = RuledSegQueue<Slip<P>, Carried, Rows>;
+pub type Line<P, O, R> = RuledSegQueue<Slip<P, O, R>, Carried, Rows>;
 
-pub type Post<P> = SegPass<Slip<P>, Carried>;
+pub type Post<P, O, R> = SegPass<Slip<P, O, R>, Carried>;
 
 /// The queue of a system. It goes with the system.
-pub struct Lane<P: Drop> {
-    pub line: Line<P>,
+pub struct Lane<P: Drop, O, R> {
+    pub line: Line<P, O, R>,
 }
 
-impl<P: Drop> Drop for Lane<P> {
+impl<P: Drop, O, R> Drop for Lane<P, O, R> {
     fn drop(self) {
         let Lane { line } = self;
         line.destroy();
@@ -49,7 +49,7 @@ impl<P: Drop> Drop for Lane<P> {
 
 pub struct Push;
 
-impl<P: Drop> Outcome<Slip<P>, Carried> for Push {
+impl<P: Drop, O, R> Outcome<Slip<P, O, R>, Carried> for Push {
     ghost use Rattle.k42_board.specs.Queueing.{Pushed};
 
     ghost then = { Pushed };
@@ -57,13 +57,13 @@ impl<P: Drop> Outcome<Slip<P>, Carried> for Push {
 
 pub struct Pop;
 
-impl<P: Drop> Outcome<Slip<P>, Carried> for Pop {
+impl<P: Drop, O, R> Outcome<Slip<P, O, R>, Carried> for Pop {
     ghost use Rattle.k42_board.specs.Queueing.{Popped};
 
     ghost then = { Popped };
 }
 
-impl<P: Drop> Lesson<Slip<P>, Carried> for Pop {
+impl<P: Drop, O, R> Lesson<Slip<P, O, R>, Carried> for Pop {
     ghost use Rattle.k42_board.specs.Queueing.{IsRuled};
 
     ghost fact = { IsRuled };
@@ -103,10 +103,10 @@ impl<B: Naming> Split<Carried> for Tie<B> {
     ghost right = { λ v. carried_none true B.table };
 }
 
-fn tie_named<B: Naming, P: Drop>(
-    line: &Line<P>,
-    root: &mut Post<P>,
-    seat: &Seat<Option<Content<P>>, View<P>>,
+fn tie_named<B: Naming, P: Drop, O, R>(
+    line: &Line<P, O, R>,
+    root: &mut Post<P, O, R>,
+    seat: &Seat<Option<Content<P, O, R>>, View<P, O, R>>,
 )
     requires queue { IsSegPassOf line.now root.old }
     requires first { root.old.me.view.client.tied ≡ false }
@@ -118,22 +118,22 @@ fn tie_named<B: Naming, P: Drop>(
 }
 
 /// The first pass on the queue learns of which table the rows are.
-pub fn tie_root<P: Drop>(
-    line: &Line<P>,
-    root: &mut Post<P>,
-    seat: &Seat<Option<Content<P>>, View<P>>,
+pub fn tie_root<P: Drop, O, R>(
+    line: &Line<P, O, R>,
+    root: &mut Post<P, O, R>,
+    seat: &Seat<Option<Content<P, O, R>>, View<P, O, R>>,
 )
     requires queue { IsSegPassOf line.now root.old }
     requires first { root.old.me.view.client.tied ≡ false }
     ensures queue { IsSegPassOf line.now root.new }
     ensures tied { IsTied seat.now.table_id root.new.me.view.client }
 {
-    tie_named::<Brand, P>(line, root, seat);
+    tie_named::<Brand, P, O, R>(line, root, seat);
 }
 
 struct See;
 
-impl<P: Drop> Play<Option<Content<P>>, View<P>> for See {
+impl<P: Drop, O, R> Play<Option<Content<P, O, R>>, View<P, O, R>> for See {
     ghost use Rattle.k42_board.specs.Queueing.{AreGranted};
     ghost use Rattle.k42_board.specs.Steps.{TellsWith};
 
@@ -142,7 +142,7 @@ impl<P: Drop> Play<Option<Content<P>>, View<P>> for See {
 
 struct Count;
 
-impl<P: Drop> Play<Option<Content<P>>, View<P>> for Count {
+impl<P: Drop, O, R> Play<Option<Content<P, O, R>>, View<P, O, R>> for Count {
     ghost use Rattle.k42_board.specs.Queueing.{HoldsFew};
     ghost use Rattle.k42_board.specs.Steps.{TellsWith};
 
@@ -151,7 +151,7 @@ impl<P: Drop> Play<Option<Content<P>>, View<P>> for Count {
 
 struct Name;
 
-impl<P> atomic_table::Split<View<P>> for Name {
+impl<P, O, R> atomic_table::Split<View<P, O, R>> for Name {
     ghost use Rattle.k42_board.specs.Queueing.{keeps_older, names_newest};
 
     ghost left = { keeps_older };
@@ -161,7 +161,7 @@ impl<P> atomic_table::Split<View<P>> for Name {
 
 struct TakeBack;
 
-impl<P> Join<View<P>> for TakeBack {
+impl<P, O, R> Join<View<P, O, R>> for TakeBack {
     ghost use Rattle.k42_board.specs.Queueing.{takes_back};
     ghost use Rattle.k42_board.specs.declared.view.View.TheVariants.{Spent};
 
@@ -172,7 +172,7 @@ impl<P> Join<View<P>> for TakeBack {
 
 struct TakeBackGranted;
 
-impl<P> Join<View<P>> for TakeBackGranted {
+impl<P, O, R> Join<View<P, O, R>> for TakeBackGranted {
     ghost use Rattle.k42_board.specs.Queueing.{takes_back};
     ghost use Rattle.k42_board.specs.declared.view.View.TheVariants.{Spent};
 
@@ -183,7 +183,7 @@ impl<P> Join<View<P>> for TakeBackGranted {
 
 struct TakeIn;
 
-impl<P> Join<View<P>> for TakeIn {
+impl<P, O, R> Join<View<P, O, R>> for TakeIn {
     ghost use Rattle.k42_board.specs.Queueing.{takes_in};
     ghost use Rattle.k42_board.specs.declared.view.View.TheVariants.{Spent};
 

@@ -4,25 +4,25 @@ ghost use Rattle.std.specs.Prelude.{◌≡◌};
 use crate::cell::Content;
 use crate::view::{Row, View};
 use atomic_table::Seat;
-use k42_kinds::Layout;
+use k42_kinds::{Kind, Layout};
 
 /// A row that is handed on, with a seat of its own.
 #[derive(Drop)]
-pub struct Slip<P: Drop> {
+pub struct Slip<P: Drop, O, R> {
     pub(crate) row: Row,
-    pub(crate) seat: Seat<Option<Content<P>>, View<P>>,
+    pub(crate) seat: Seat<Option<Content<P, O, R>>, View<P, O, R>>,
 }
 
-impl<P: Drop> Slip<P> {
+impl<P: Drop, O, R> Slip<P, O, R> {
     /// The row with the seat that names it.
-    pub fn of(row: Row, seat: Seat<Option<Content<P>>, View<P>>) -> Slip<P>
+    pub fn of(row: Row, seat: Seat<Option<Content<P, O, R>>, View<P, O, R>>) -> Slip<P, O, R>
         ensures { result ≡ record { row = row; seat = seat } }
     {
         Slip { row, seat }
     }
 
     /// The row, and the seat that names it.
-    pub fn into_parts(self) -> (Row, Seat<Option<Content<P>>, View<P>>)
+    pub fn into_parts(self) -> (Row, Seat<Option<Content<P, O, R>>, View<P, O, R>>)
         ensures { result ≡ (self.row, self.seat) }
     {
         let Slip { row, seat } = self;
@@ -30,7 +30,7 @@ impl<P: Drop> Slip<P> {
     }
 }
 
-pub type Retired<L> = Slip<<L as Layout>::Part>;
+pub type Retired<L> = Slip<<L as Layout>::Part, <L as Kind>::Op, <L as Kind>::Reply>;
 
 /// Which table. No value of it is made; an array stands for a list.
 pub struct TableName {

@@ -5,19 +5,19 @@ use atomic_table::Play;
 use std::marker::{Brand, PhantomData};
 
 /// What a pass knows of parts once it has taken a cell. It hangs on the declared layouts, so the call picks it.
-pub trait Known<P> {
+pub trait Known<P, O, R> {
     ghost use Rattle.k42_board.specs.declared.view.PassView.{PassView};
 
-    ghost known: { PassView P → Type 0 };
+    ghost known: { PassView P O R → Type 0 };
 }
 
-impl<P> Known<P> for Brand {
+impl<P, O, R> Known<P, O, R> for Brand {
     ghost known = { λ v. Unit {0} };
 }
 
 pub(crate) struct Lock;
 
-impl<P: Drop> Play<Option<Content<P>>, View<P>> for Lock {
+impl<P: Drop, O, R> Play<Option<Content<P, O, R>>, View<P, O, R>> for Lock {
     ghost use Rattle.k42_board.specs.Log.{took};
     ghost use Rattle.k42_board.specs.Steps.{TellsWith};
     ghost use Rattle.k42_board.specs.Taking.{LockFound, cell_at_lock, locked_view};
@@ -28,7 +28,7 @@ impl<P: Drop> Play<Option<Content<P>>, View<P>> for Lock {
 
 pub(crate) struct LockQuietly;
 
-impl<P: Drop> Play<Option<Content<P>>, View<P>> for LockQuietly {
+impl<P: Drop, O, R> Play<Option<Content<P, O, R>>, View<P, O, R>> for LockQuietly {
     ghost use Rattle.k42_board.specs.Steps.{TellsWith};
     ghost use Rattle.k42_board.specs.Taking.{LockFound, cell_at_lock, tried_view};
 
@@ -37,7 +37,7 @@ impl<P: Drop> Play<Option<Content<P>>, View<P>> for LockQuietly {
 
 pub(crate) struct Unlock;
 
-impl<P: Drop> Play<Option<Content<P>>, View<P>> for Unlock {
+impl<P: Drop, O, R> Play<Option<Content<P, O, R>>, View<P, O, R>> for Unlock {
     ghost use Rattle.k42_board.specs.Log.{took};
     ghost use Rattle.k42_board.specs.Steps.{Tells};
     ghost use Rattle.k42_board.specs.Taking.{cell_at_lock, unlocked_view};
@@ -48,7 +48,7 @@ impl<P: Drop> Play<Option<Content<P>>, View<P>> for Unlock {
 
 pub(crate) struct Lift;
 
-impl<P: Drop> Play<Option<Content<P>>, View<P>> for Lift {
+impl<P: Drop, O, R> Play<Option<Content<P, O, R>>, View<P, O, R>> for Lift {
     ghost use Rattle.k42_board.specs.Taking.{Lifts};
 
     ghost then = { Lifts };
@@ -56,7 +56,8 @@ impl<P: Drop> Play<Option<Content<P>>, View<P>> for Lift {
 
 pub(crate) struct GiveBack<K>(PhantomData<K>);
 
-impl<P: Drop, K: Known<P>> Play<Option<Content<P>>, View<P>> for GiveBack<K> {
+impl<P: Drop, O, R, K: Known<P, O, R>> Play<Option<Content<P, O, R>>, View<P, O, R>>
+    for GiveBack<K> {
     ghost use Rattle.k42_board.specs.Taking.{GivesBackKnown};
 
     ghost then = { GivesBackKnown K.known };
@@ -64,7 +65,7 @@ impl<P: Drop, K: Known<P>> Play<Option<Content<P>>, View<P>> for GiveBack<K> {
 
 pub(crate) struct Reach;
 
-impl<P: Drop> Play<Option<Content<P>>, View<P>> for Reach {
+impl<P: Drop, O, R> Play<Option<Content<P, O, R>>, View<P, O, R>> for Reach {
     ghost use Rattle.k42_board.specs.Taking.{Reaches};
 
     ghost then = { Reaches };
@@ -72,7 +73,7 @@ impl<P: Drop> Play<Option<Content<P>>, View<P>> for Reach {
 
 pub(crate) struct PutBack;
 
-impl<P: Drop> Play<Option<Content<P>>, View<P>> for PutBack {
+impl<P: Drop, O, R> Play<Option<Content<P, O, R>>, View<P, O, R>> for PutBack {
     ghost use Rattle.k42_board.specs.Taking.{Puts};
 
     ghost then = { Puts };

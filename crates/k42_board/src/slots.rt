@@ -57,7 +57,7 @@ pub fn unlock_cell<L: Layout>(board: &Board<L>, seat: &mut BoardSeat<L>, cell: u
 
 /// Moves the cell out of its slot to where room for it was lent: a cell is long, and would be copied at each return.
 #[inline(always)]
-pub fn take_cell<L: Layout, K: Known<L::Part>>(
+pub fn take_cell<L: Layout, K: Known<L::Part, L::Op, L::Reply>>(
     board: &Board<L>,
     seat: &mut BoardSeat<L>,
     cell: usize,
@@ -67,7 +67,7 @@ pub fn take_cell<L: Layout, K: Known<L::Part>>(
     requires idle { (pass_in seat.old.me.0).out ≡ None }
     requires ours { IsOfTable L.Layout board.now.shared.table_id board.now.shared.key seat.old }
     requires may { HoldsHome cell (pass_in seat.old.me.0) }
-    requires known { (v : PassView L.Part) → AreRowsNoted (layouts_by L.Layout board.now.shared.key) board.now.shared.key.layouts.items v → K.known v }
+    requires known { (v : PassView L.Part L.Op L.Reply) → AreRowsNoted (layouts_by L.Layout board.now.shared.key) board.now.shared.key.layouts.items v → K.known v }
     ensures number { IsSomeAnd held.new (λ content. content.number ≡ cell) }
     ensures known { K.known (pass_in seat.new.me.0) }
     ensures taken { IfSome held.new (λ content. HasMovedTwice L.Layout board.now.shared.key (protocol.lift cell content) (protocol.give_back cell) seat.old seat.new) }

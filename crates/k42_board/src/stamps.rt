@@ -6,7 +6,7 @@ ghost use Rattle.k42_limits.specs.declared.TheConstants.{LAST_STAMP};
 use crate::cell::Content;
 
 /// The greatest last stamp that these cells tell.
-pub fn last_at<P: Drop>(cells: &[Content<P>]) -> u64
+pub fn last_at<P: Drop, O, R>(cells: &[Content<P, O, R>]) -> u64
     ensures told { result ≡ last_told cells.now }
     ensures small { result ≤ LAST_STAMP }
 {

@@ -5,7 +5,7 @@ use atomic_table::Play;
 
 pub(crate) struct ChangeEntry;
 
-impl<P: Drop> Play<Option<Content<P>>, View<P>> for ChangeEntry {
+impl<P: Drop, O, R> Play<Option<Content<P, O, R>>, View<P, O, R>> for ChangeEntry {
     ghost use Rattle.k42_board.specs.Log.{took};
     ghost use Rattle.k42_board.specs.Steps.{Tells};
     ghost use Rattle.k42_board.specs.Swapping.{changed_view};
@@ -16,7 +16,7 @@ impl<P: Drop> Play<Option<Content<P>>, View<P>> for ChangeEntry {
 
 pub(crate) struct Block;
 
-impl<P: Drop> Play<Option<Content<P>>, View<P>> for Block {
+impl<P: Drop, O, R> Play<Option<Content<P, O, R>>, View<P, O, R>> for Block {
     ghost use Rattle.k42_board.specs.Log.{took};
     ghost use Rattle.k42_board.specs.Steps.{Tells};
     ghost use Rattle.k42_board.specs.Swapping.{blocked_view};
@@ -27,7 +27,7 @@ impl<P: Drop> Play<Option<Content<P>>, View<P>> for Block {
 
 pub(crate) struct Move;
 
-impl<P: Drop> Play<Option<Content<P>>, View<P>> for Move {
+impl<P: Drop, O, R> Play<Option<Content<P, O, R>>, View<P, O, R>> for Move {
     ghost use Rattle.k42_board.specs.Log.{took};
     ghost use Rattle.k42_board.specs.Steps.{TellsWith};
     ghost use Rattle.k42_board.specs.Swapping.{CountFound, moved_view};
@@ -38,7 +38,7 @@ impl<P: Drop> Play<Option<Content<P>>, View<P>> for Move {
 
 pub(crate) struct TurnOver;
 
-impl<P: Drop> Play<Option<Content<P>>, View<P>> for TurnOver {
+impl<P: Drop, O, R> Play<Option<Content<P, O, R>>, View<P, O, R>> for TurnOver {
     ghost use Rattle.k42_board.specs.Log.{took};
     ghost use Rattle.k42_board.specs.Steps.{Tells};
     ghost use Rattle.k42_board.specs.Swapping.{turned_view};
@@ -49,7 +49,7 @@ impl<P: Drop> Play<Option<Content<P>>, View<P>> for TurnOver {
 
 pub(crate) struct Clear;
 
-impl<P: Drop> Play<Option<Content<P>>, View<P>> for Clear {
+impl<P: Drop, O, R> Play<Option<Content<P, O, R>>, View<P, O, R>> for Clear {
     ghost use Rattle.k42_board.specs.Log.{took};
     ghost use Rattle.k42_board.specs.Steps.{TellsWith};
     ghost use Rattle.k42_board.specs.Swapping.{ClearFound, cleared_view};

@@ -5,7 +5,7 @@ use atomic_table::Play;
 
 pub(crate) struct LookUp;
 
-impl<P: Drop> Play<Option<Content<P>>, View<P>> for LookUp {
+impl<P: Drop, O, R> Play<Option<Content<P, O, R>>, View<P, O, R>> for LookUp {
     ghost use Rattle.k42_board.specs.Log.{took};
     ghost use Rattle.k42_board.specs.Steps.{TellsWith};
     ghost use Rattle.k42_board.specs.Tabling.{EntryFound, entry_object, looked_up_view};
@@ -16,7 +16,7 @@ impl<P: Drop> Play<Option<Content<P>>, View<P>> for LookUp {
 
 pub(crate) struct LoadRoot;
 
-impl<P: Drop> Play<Option<Content<P>>, View<P>> for LoadRoot {
+impl<P: Drop, O, R> Play<Option<Content<P, O, R>>, View<P, O, R>> for LoadRoot {
     ghost use Rattle.k42_board.specs.Log.{took};
     ghost use Rattle.k42_board.specs.Steps.{TellsWith};
     ghost use Rattle.k42_board.specs.Tabling.{RootFound, rooted_view};
@@ -27,7 +27,7 @@ impl<P: Drop> Play<Option<Content<P>>, View<P>> for LoadRoot {
 
 pub(crate) struct EndCall;
 
-impl<P: Drop> Play<Option<Content<P>>, View<P>> for EndCall {
+impl<P: Drop, O, R> Play<Option<Content<P, O, R>>, View<P, O, R>> for EndCall {
     ghost use Rattle.k42_board.specs.Log.{took};
     ghost use Rattle.k42_board.specs.Steps.{Tells};
     ghost use Rattle.k42_board.specs.Tabling.{ended_view};
@@ -38,7 +38,7 @@ impl<P: Drop> Play<Option<Content<P>>, View<P>> for EndCall {
 
 pub(crate) struct StepOut;
 
-impl<P: Drop> Play<Option<Content<P>>, View<P>> for StepOut {
+impl<P: Drop, O, R> Play<Option<Content<P, O, R>>, View<P, O, R>> for StepOut {
     ghost use Rattle.k42_board.specs.Log.{took};
     ghost use Rattle.k42_board.specs.Steps.{Tells};
     ghost use Rattle.k42_board.specs.Tabling.{ended_view};
@@ -49,7 +49,7 @@ impl<P: Drop> Play<Option<Content<P>>, View<P>> for StepOut {
 
 pub(crate) struct Install;
 
-impl<P: Drop> Play<Option<Content<P>>, View<P>> for Install {
+impl<P: Drop, O, R> Play<Option<Content<P, O, R>>, View<P, O, R>> for Install {
     ghost use Rattle.k42_board.specs.Log.{took};
     ghost use Rattle.k42_board.specs.Steps.{Tells};
     ghost use Rattle.k42_board.specs.Tabling.{entry_object, installed_view};
@@ -60,7 +60,7 @@ impl<P: Drop> Play<Option<Content<P>>, View<P>> for Install {
 
 pub(crate) struct Knock;
 
-impl<P: Drop> Play<Option<Content<P>>, View<P>> for Knock {
+impl<P: Drop, O, R> Play<Option<Content<P, O, R>>, View<P, O, R>> for Knock {
     ghost use Rattle.k42_board.specs.Log.{took};
     ghost use Rattle.k42_board.specs.Steps.{TellsWith};
     ghost use Rattle.k42_board.specs.Tabling.{ObjectFound, word_object, knocked_view};
@@ -71,7 +71,7 @@ impl<P: Drop> Play<Option<Content<P>>, View<P>> for Knock {
 
 pub(crate) struct Begin;
 
-impl<P: Drop> Play<Option<Content<P>>, View<P>> for Begin {
+impl<P: Drop, O, R> Play<Option<Content<P, O, R>>, View<P, O, R>> for Begin {
     ghost use Rattle.k42_board.specs.Log.{took};
     ghost use Rattle.k42_board.specs.Steps.{TellsWith};
     ghost use Rattle.k42_board.specs.Tabling.{ObjectFound, word_object, begun_view};

@@ -75,26 +75,26 @@ pub struct Taken {
 }
 
 /// What a pass knows of a cell that it has taken.
-pub struct Note<P> {
+pub struct Note<P, O, R> {
     pub cell: u32,
     pub closed: bool,
-    pub history: [Entry; 0],
+    pub history: LinkedList<Entry<O, R>>,
     pub part: Option<P>,
 }
 
 /// What a pass knows.
-pub struct PassView<P> {
+pub struct PassView<P, O, R> {
     pub number: u32,
     pub turn: GenCaller,
     pub visitor: PhaseCaller,
-    pub taker: TurnCaller,
+    pub taker: TurnCaller<O, R>,
     /// How many graces it has begun.
     pub graces: u32,
     /// The generation of the processors that its grace has not flipped, once it has asked.
     pub base: Option<u32>,
     /// Of its last Begin, and what is kept of it.
     pub last: Option<LastBegin>,
-    pub found: Option<Answer>,
+    pub found: Option<Answer<R>>,
     pub abandoned: bool,
     /// Whether it has turned over the object that it swaps.
     pub turned: bool,
@@ -105,7 +105,7 @@ pub struct PassView<P> {
     /// The rows that it holds, and how many of them it held as it took the role.
     pub rows: [Row; 0],
     pub granted: u32,
-    pub notes: LinkedList<Note<P>>,
+    pub notes: LinkedList<Note<P, O, R>>,
     /// The cell whose slot is out with it.
     pub out: Option<u32>,
     /// The cells at which its last entry was drawn, and whose seats do not tell it yet.
@@ -115,15 +115,15 @@ pub struct PassView<P> {
 }
 
 /// What the seat of a cell knows: a copy of its history.
-pub struct CellView {
-    pub history: [Entry; 0],
+pub struct CellView<O, R> {
+    pub history: LinkedList<Entry<O, R>>,
     pub closed: bool,
 }
 
-pub enum View<P> {
+pub enum View<P, O, R> {
     /// One pass, or several whose seats are not parted yet, or were joined.
-    Crew(LinkedList<PassView<P>>),
-    Kept(CellView),
+    Crew(LinkedList<PassView<P, O, R>>),
+    Kept(CellView<O, R>),
     /// The row that a `Retired` names.
     Named(Row),
     /// A stamp to which some caller's clock has come.

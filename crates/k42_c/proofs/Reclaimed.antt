@@ -26,6 +26,8 @@ use Rattle.k42_quiesce.specs.Reclaiming.{reclaimed_view}
 use Rattle.k42_runtime.specs.Systems.{SystemSeen, IsAtRest, SystemPart, SystemPass}
 use Rattle.k42_c.specs.Going.{IsReclaiming}
 use Rattle.k42_c.specs.Reclaiming.{HasFoundRole, graces_begun, notes_of}
+use Rattle.k42_kinds.specs.declared.operation.Op.{Op}
+use Rattle.k42_kinds.specs.declared.operation.Reply.{Reply}
 
 -- who has no swap under way has none once its grace has gone on
 is_idle_only : (swap : SwapAt) → is_idle swap ≡ true → swap ≡ swaps.Idle
@@ -58,7 +60,7 @@ more : (n : ℕ) → n ≡ n + 0
 more n = omega arith
 
 -- the grace has the role, and has gone on
-pub record HasRole (grace : Option ℕ) (v w : PassView SystemPart) : Type 0 where
+pub record HasRole (grace : Option ℕ) (v w : PassView SystemPart Op Reply) : Type 0 where
   pub taker : w.taker ≡ v.taker
   pub rows : w.rows ≡ v.rows
   pub number : w.number ≡ v.number
@@ -71,33 +73,33 @@ pub record HasRole (grace : Option ℕ) (v w : PassView SystemPart) : Type 0 whe
   pub graces : w.graces ≡ v.graces + graces_begun grace
   pub grows : Grows v.log w.log
 
-pub has_role_now : (system : SystemSeen) (grace : Option ℕ) (old : SystemPass) (w : PassView SystemPart) → IsReclaiming system grace old
+pub has_role_now : (system : SystemSeen) (grace : Option ℕ) (old : SystemPass) (w : PassView SystemPart Op Reply) → IsReclaiming system grace old
     → GoesOn (with_role grace old.view) w → HasRole grace old.view w
 has_role_now system None old w is goes = record {
-  taker = ap (λ (x : PassView SystemPart). x.taker) goes.rest;
-  rows = ap (λ (x : PassView SystemPart). x.rows) goes.rest;
-  number = ap (λ (x : PassView SystemPart). x.number) goes.rest;
+  taker = ap (λ (x : PassView SystemPart Op Reply). x.taker) goes.rest;
+  rows = ap (λ (x : PassView SystemPart Op Reply). x.rows) goes.rest;
+  number = ap (λ (x : PassView SystemPart Op Reply). x.number) goes.rest;
   inactive = ap (λ (t : Caller). t.active) goes.turn ∙ is.inactive;
   place = ap (λ (x : Visitor). x.place) goes.visitor;
-  notes = ap (λ (x : PassView SystemPart). x.notes) goes.rest;
+  notes = ap (λ (x : PassView SystemPart Op Reply). x.notes) goes.rest;
   swap = ap (λ (x : Visitor). is_idle x.swap) goes.visitor ∙ stays_idle w.turn.grace (draining_from old.view.visitor.swap) (idle_draining old.view.visitor.swap is.swap);
   noted = ap (λ (x : Visitor). x.noted) goes.visitor;
-  all = ap (λ (x : PassView SystemPart). x.granted) goes.rest ∙ sym (ap (λ (x : PassView SystemPart). length x.rows) goes.rest);
-  graces = ap (λ (x : PassView SystemPart). x.graces) goes.rest;
+  all = ap (λ (x : PassView SystemPart Op Reply). x.granted) goes.rest ∙ sym (ap (λ (x : PassView SystemPart Op Reply). length x.rows) goes.rest);
+  graces = ap (λ (x : PassView SystemPart Op Reply). x.graces) goes.rest;
   grows = grows_on (grows_one (step_at steps.TakeRole role_word 0) old.view.log refl) goes.frees_none;
 }
 has_role_now system (Some holder) old w is goes = record {
-  taker = ap (λ (x : PassView SystemPart). x.taker) goes.rest;
-  rows = ap (λ (x : PassView SystemPart). x.rows) goes.rest;
-  number = ap (λ (x : PassView SystemPart). x.number) goes.rest;
+  taker = ap (λ (x : PassView SystemPart Op Reply). x.taker) goes.rest;
+  rows = ap (λ (x : PassView SystemPart Op Reply). x.rows) goes.rest;
+  number = ap (λ (x : PassView SystemPart Op Reply). x.number) goes.rest;
   inactive = ap (λ (t : Caller). t.active) goes.turn ∙ is.inactive;
   place = ap (λ (x : Visitor). x.place) goes.visitor;
-  notes = ap (λ (x : PassView SystemPart). x.notes) goes.rest;
+  notes = ap (λ (x : PassView SystemPart Op Reply). x.notes) goes.rest;
   swap = ap (λ (x : Visitor). is_idle x.swap) goes.visitor ∙ stays_idle w.turn.grace old.view.visitor.swap is.swap;
   noted = ap (λ (x : Visitor). x.noted) goes.visitor;
   all =
-      ap (λ (x : PassView SystemPart). x.granted) goes.rest ∙ is.all ∙ sym (ap (λ (x : PassView SystemPart). length x.rows) goes.rest);
-  graces = ap (λ (x : PassView SystemPart). x.graces) goes.rest ∙ more old.view.graces;
+      ap (λ (x : PassView SystemPart Op Reply). x.granted) goes.rest ∙ is.all ∙ sym (ap (λ (x : PassView SystemPart Op Reply). length x.rows) goes.rest);
+  graces = ap (λ (x : PassView SystemPart Op Reply). x.graces) goes.rest ∙ more old.view.graces;
   grows = goes.frees_none;
 }
 
@@ -118,12 +120,12 @@ goes_on system grace next old new is has ours e looking = subst (λ (at : Option
 })
 
 -- all rows are granted to it
-pub granted_all : (grace : Option ℕ) (v w : PassView SystemPart) → HasRole grace v w → take w.granted w.rows ≡ v.rows
+pub granted_all : (grace : Option ℕ) (v w : PassView SystemPart Op Reply) → HasRole grace v w → take w.granted w.rows ≡ v.rows
 granted_all grace v w has = ap (λ n. take n w.rows) has.all ∙ take-length w.rows ∙ has.rows
 
 -- once they are freed, the pass has none
-pub none_left : (grace : Option ℕ) (v w x : PassView SystemPart) → HasRole grace v w → x ≡ reclaimed_view w x → x.rows ≡ []
-none_left grace v w x has knows = ap (λ (y : PassView SystemPart). y.rows) knows ∙ ap (λ n. drop n w.rows) has.all ∙ drop_of_length-le w.rows {i = length w.rows} (omega arith)
+pub none_left : (grace : Option ℕ) (v w x : PassView SystemPart Op Reply) → HasRole grace v w → x ≡ reclaimed_view w x → x.rows ≡ []
+none_left grace v w x has knows = ap (λ (y : PassView SystemPart Op Reply). y.rows) knows ∙ ap (λ n. drop n w.rows) has.all ∙ drop_of_length-le w.rows {i = length w.rows} (omega arith)
 
 -- the role was another's: nothing of the pass is other than before but its log
 idle_by : (idle : Bool) (active : Option ℕ) → idle && is_none active ≡ true → idle ≡ true
@@ -136,7 +138,7 @@ rests_before system old is =
     λ j. is_none (is.inactive j) && idle j && is.swap j
 
 -- it has found the role with this caller
-abbrev pub HasTried : ℕ → PassView SystemPart → PassView SystemPart → Type 0
+abbrev pub HasTried : ℕ → PassView SystemPart Op Reply → PassView SystemPart Op Reply → Type 0
 HasTried holder v w = w ≡ took steps.TakeRole role_word (holder + 1) (role_view (holder + 1) v)
 
 pub freed_rests : (system : SystemSeen) (grace : Option ℕ) (old new : SystemPass) (holder : ℕ) → IsReclaiming system grace old → grace ≡ None → IsPassOf system.sys new
@@ -147,11 +149,11 @@ freed_rests system grace old new holder is none ours tried =
     record {
       here = record {
         ours = ours;
-        out = ap (λ (v : PassView SystemPart). is_out v.visitor.place) knows ∙ is.here.out;
-        held = ap (λ (v : PassView SystemPart). v.taker.held) knows ∙ is.here.held;
-        notes = ap (λ (v : PassView SystemPart). v.notes) knows ∙ is.here.notes;
+        out = ap (λ (v : PassView SystemPart Op Reply). is_out v.visitor.place) knows ∙ is.here.out;
+        held = ap (λ (v : PassView SystemPart Op Reply). v.taker.held) knows ∙ is.here.held;
+        notes = ap (λ (v : PassView SystemPart Op Reply). v.notes) knows ∙ is.here.notes;
       };
-      rests = ap (λ (v : PassView SystemPart). is_at_rest v) knows ∙ rests_before system old was;
+      rests = ap (λ (v : PassView SystemPart Op Reply). is_at_rest v) knows ∙ rests_before system old was;
     }
 
 pub found_role : (old new : SystemPass) (holder : ℕ) → IsSamePass old new → HasTried holder old.view new.view
@@ -161,13 +163,13 @@ found_role old new holder same tried finds =
     let few = finds.small in
     record {
       same = same;
-      drawn = ap (λ (v : PassView SystemPart). v.taker) knows;
-      rows = ap (λ (v : PassView SystemPart). v.rows) knows;
-      graces = ap (λ (v : PassView SystemPart). v.graces) knows;
+      drawn = ap (λ (v : PassView SystemPart Op Reply). v.taker) knows;
+      rows = ap (λ (v : PassView SystemPart Op Reply). v.rows) knows;
+      graces = ap (λ (v : PassView SystemPart Op Reply). v.graces) knows;
       holder = holder;
       elsewhere = record {
-        tried = record { gained = []; log = ap (λ (v : PassView SystemPart). v.log) knows; meets_none = refl };
-        another = λ e. finds.another (ap (λ (n : ℕ). n + 1) (e ∙ ap (λ (v : PassView SystemPart). v.number) knows));
+        tried = record { gained = []; log = ap (λ (v : PassView SystemPart Op Reply). v.log) knows; meets_none = refl };
+        another = λ e. finds.another (ap (λ (n : ℕ). n + 1) (e ∙ ap (λ (v : PassView SystemPart Op Reply). v.number) knows));
         caller = omega (arith, few);
       };
     }

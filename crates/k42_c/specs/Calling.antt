@@ -14,7 +14,7 @@ use Rattle.k42_c.specs.declared.seat.Works.{Works}
 abbrev pub plan_of : Works → PlanSeen
 plan_of works = (arc_value works.home).system.plan
 
-abbrev pub view_of : Works → PassView SystemPart
+abbrev pub view_of : Works → PassView SystemPart Op Reply
 view_of works = works.pass.value.view
 
 -- the call may be made

@@ -5,6 +5,8 @@ use Rattle.phase_core.specs.Stages.{is_idle}
 use Rattle.k42_quiesce.specs.Gracing.{MayStep}
 use Rattle.k42_runtime.specs.Swaps.{SwapSeen, IsAtStage, is_over}
 use Rattle.k42_runtime.specs.Systems.{SystemSeen, IsPassHere, SystemPart, SystemPass}
+use Rattle.k42_kinds.specs.declared.operation.Op.{Op}
+use Rattle.k42_kinds.specs.declared.operation.Reply.{Reply}
 
 -- the swap is not over, and the pass is as its last step left it
 pub record IsSwapping (system : SystemSeen) (swap : SwapSeen) (pass : SystemPass) : Type 0 where
@@ -13,7 +15,7 @@ pub record IsSwapping (system : SystemSeen) (swap : SwapSeen) (pass : SystemPass
   pub going : is_over swap.stage ≡ false
 
 -- a grace that has the role was granted all rows that the pass has
-abbrev pub IsForAll : Option ℕ → PassView SystemPart → Type 0
+abbrev pub IsForAll : Option ℕ → PassView SystemPart Op Reply → Type 0
 IsForAll None v = ⊤
 IsForAll (Some holder) v = v.granted ≡ length v.rows
 

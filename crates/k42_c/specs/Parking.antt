@@ -3,6 +3,8 @@ use Rattle.std.specs.Prelude.{◌≡◌, ◌≢◌, ◌⊎◌, ℕ, Bool, true, 
 use Rattle.std.specs.Arc.{arc_value}
 use Rattle.k42_board.specs.declared.keep.Keep.TheVariants as keeps
 use Rattle.k42_crews.specs.Ready.{AreFree, AreAll, MayGive}
+use Rattle.k42_kinds.specs.declared.operation.Op.{Op}
+use Rattle.k42_kinds.specs.declared.operation.Reply.{Reply}
 use Rattle.k42_kinds.specs.declared.entry.Entry.{Entry}
 use Rattle.k42_runtime.specs.Sections.{IsSection}
 use Rattle.k42_runtime.specs.Systems.{SystemSeen, SystemPass}
@@ -25,7 +27,7 @@ use Rattle.k42_c.specs.declared.seat.Seat.TheVariants.{Gone, Parks, Rests}
 -- Passes that lie at the desk have given a section, or some are missing.
 abbrev pub HaveTried : SystemSeen → List SystemPass → List SystemPass → End → End → Result Parked Refusal → Type 0
 HaveTried system old new from to (Ok parked.Section) =
-    MayGive system old × ((section : List Entry) × (to ≡ Section section) × IsSection old new section)
+    MayGive system old × ((section : List (Entry Op Reply)) × (to ≡ Section section) × IsSection old new section)
 HaveTried system old new from to (Ok (parked.Missing which)) =
     (¬ AreAll system old) × (which ≡ missing_in system old) × (new ≡ old) × (to ≡ from)
 HaveTried system old new from to (Err Memory) = AreAll system old × (new ≡ old) × (to ≡ from)

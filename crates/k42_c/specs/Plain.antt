@@ -2,6 +2,7 @@
 use Rattle.std.specs.Prelude.{ℕ, List, [], take}
 use Rattle.std.specs.Option.{unwrap_or}
 use Rattle.k42_kinds.specs.Padded.{padded}
+use Rattle.k42_kinds.specs.declared.operation.Reply.{Reply}
 use Rattle.k42_kinds.specs.declared.entry.Act.{Act}
 use Rattle.k42_kinds.specs.declared.entry.Act.TheVariants as acts
 use Rattle.k42_kinds.specs.declared.entry.Answer.{Answer}
@@ -56,37 +57,37 @@ to_number tos.Dead = 14
 to_number tos.Watch = 15
 to_number tos.Unwatch = 16
 
-abbrev pub act_number : Act → ℕ
+abbrev pub act_number : Act Op → ℕ
 act_number (acts.Call op) = op_number op
 act_number (acts.Swap to) = to_number to
 
 -- what was added or bound
-abbrev pub number_asked : Act → ℕ
+abbrev pub number_asked : Act Op → ℕ
 number_asked (acts.Call (ops.Add amount)) = amount
 number_asked (acts.Call (ops.Bind key number)) = number
 number_asked _ = 0
 
-abbrev pub page_asked : Act → ℕ
+abbrev pub page_asked : Act Op → ℕ
 page_asked (acts.Call (ops.Write page text)) = page
 page_asked (acts.Call (ops.Read page)) = page
 page_asked _ = 0
 
-abbrev pub key_asked : Act → List ℕ
+abbrev pub key_asked : Act Op → List ℕ
 key_asked (acts.Call (ops.Bind key number)) = key
 key_asked (acts.Call (ops.Find key)) = key
 key_asked (acts.Call (ops.Unbind key)) = key
 key_asked _ = []
 
-abbrev pub text_asked : Act → List ℕ
+abbrev pub text_asked : Act Op → List ℕ
 text_asked (acts.Call (ops.Write page text)) = text
 text_asked _ = []
 
 -- the text that was read, or else that was written
-abbrev pub text_told : Act → Answer → List ℕ
+abbrev pub text_told : Act Op → Answer Reply → List ℕ
 text_told act (answers.Replied (replies.Text text)) = text
 text_told act _ = text_asked act
 
-abbrev pub answer_code : Answer → ℕ
+abbrev pub answer_code : Answer Reply → ℕ
 answer_code (answers.Replied reply) = reply_code reply
 answer_code (answers.Swapped number) = DONE
 answer_code (answers.Busy number) = BUSY
@@ -95,14 +96,14 @@ answer_code answers.Gone = GONE
 answer_code (answers.Abandoned number) = MEMORY
 
 -- the number that was replied, or which a swap has
-abbrev pub number_told : Answer → ℕ
+abbrev pub number_told : Answer Reply → ℕ
 number_told (answers.Replied (replies.Number number)) = number
 number_told (answers.Swapped number) = number
 number_told (answers.Busy number) = number
 number_told (answers.Abandoned number) = number
 number_told _ = 0
 
-abbrev pub plain_entry : Entry → K42Entry
+abbrev pub plain_entry : Entry Op Reply → K42Entry
 plain_entry entry = record {
   place = entry.stamp;
   index = entry.index;

@@ -21,9 +21,11 @@ use Rattle.k42_c.specs.declared.seat.Rests.{Rests as Resting}
 use Rattle.k42_c.specs.declared.seat.Reclaims.{Reclaims as Reclaiming}
 use Rattle.k42_c.specs.declared.seat.Seat.{Seat}
 use Rattle.k42_c.specs.declared.seat.Seat.TheVariants.{Rests, Reclaims}
+use Rattle.k42_kinds.specs.declared.operation.Op.{Op}
+use Rattle.k42_kinds.specs.declared.operation.Reply.{Reply}
 
 -- what a grace is to free: what is due as it begins, and then what it noted
-abbrev pub notes_of : Option ℕ → PassView SystemPart → List (Option ℕ)
+abbrev pub notes_of : Option ℕ → PassView SystemPart Op Reply → List (Option ℕ)
 notes_of None v = notes_due v
 notes_of (Some holder) v = v.visitor.noted
 

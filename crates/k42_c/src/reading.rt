@@ -33,7 +33,7 @@ fn op_number(op: &Op) -> u32
     }
 }
 
-fn act_number(act: &Act) -> u32
+fn act_number(act: &Act<Op>) -> u32
     ensures { result ≡ act_number act.now }
 {
     match act {
@@ -46,7 +46,7 @@ fn act_number(act: &Act) -> u32
     }
 }
 
-fn number_asked(act: &Act) -> u64
+fn number_asked(act: &Act<Op>) -> u64
     ensures { result ≡ number_asked act.now }
 {
     match act {
@@ -56,7 +56,7 @@ fn number_asked(act: &Act) -> u64
     }
 }
 
-fn page_asked(act: &Act) -> u32
+fn page_asked(act: &Act<Op>) -> u32
     ensures { result ≡ page_asked act.now }
 {
     match act {
@@ -65,7 +65,7 @@ fn page_asked(act: &Act) -> u32
     }
 }
 
-fn key_asked(act: &Act) -> K42Key
+fn key_asked(act: &Act<Op>) -> K42Key
     ensures { result ≡ plain_key (key_asked act.now) }
 {
     match act {
@@ -77,7 +77,7 @@ fn key_asked(act: &Act) -> K42Key
     }
 }
 
-fn text_told(act: &Act, answer: &Answer) -> K42Text
+fn text_told(act: &Act<Op>, answer: &Answer<Reply>) -> K42Text
     ensures { result ≡ plain_text (text_told act.now answer.now) }
 {
     match (act, answer) {
@@ -91,7 +91,7 @@ fn text_told(act: &Act, answer: &Answer) -> K42Text
     }
 }
 
-fn answer_code(answer: &Answer) -> u32
+fn answer_code(answer: &Answer<Reply>) -> u32
     ensures { result ≡ answer_code answer.now }
 {
     match answer {
@@ -104,7 +104,7 @@ fn answer_code(answer: &Answer) -> u32
     }
 }
 
-fn number_told(answer: &Answer) -> u64
+fn number_told(answer: &Answer<Reply>) -> u64
     ensures { result ≡ number_told answer.now }
 {
     match answer {
@@ -116,7 +116,7 @@ fn number_told(answer: &Answer) -> u64
     }
 }
 
-fn plain_entry(entry: &Entry) -> K42Entry
+fn plain_entry(entry: &Entry<Op, Reply>) -> K42Entry
     ensures { result ≡ plain_entry entry.now }
 {
     K42Entry {
@@ -160,7 +160,7 @@ pub(crate) fn count(seat: &Seat) -> Result<u64, Refusal>
 }
 
 /// A reader of its entries, if it has some.
-fn reader_of(alloc: Global, seat: &Seat) -> Option<Result<Reader<'_>, Memory>>
+fn reader_of(alloc: Global, seat: &Seat) -> Option<Result<Reader<'_, Op, Reply>, Memory>>
     ensures is { MatchOption result (entries_in seat.now ≡ None) (λ read. IfOk read (λ reader. entries_in seat.now ≡ Some reader)) }
     ensures some { IfSome result (λ _. IsSome (entries_in seat.now)) }
 {
@@ -172,7 +172,7 @@ fn reader_of(alloc: Global, seat: &Seat) -> Option<Result<Reader<'_>, Memory>>
 }
 
 /// Reads past so many entries, as far as there are any.
-fn skip(reader: &mut Reader<'_>, count: u64)
+fn skip(reader: &mut Reader<'_, Op, Reply>, count: u64)
     ensures { reader.new ≡ drop count reader.old }
 {
     for _ in 0..count {
@@ -183,7 +183,7 @@ fn skip(reader: &mut Reader<'_>, count: u64)
 }
 
 /// Reads entries into the places for them, as far as there are both, and answers how many.
-fn fill(reader: &mut Reader<'_>, entries: &mut [K42Entry]) -> usize
+fn fill(reader: &mut Reader<'_, Op, Reply>, entries: &mut [K42Entry]) -> usize
     ensures { HasRead reader.old entries.old entries.new result }
 {
     let mut read = 0;

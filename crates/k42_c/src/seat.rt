@@ -8,6 +8,7 @@ ghost use Rattle.k42_c.specs.Going.{IsReclaiming, IsSwapping};
 ghost use Rattle.k42_c.specs.GoingProps.{IsReclaiming-prop, IsSwapping-prop};
 
 use crate::home::Home;
+use k42_kinds::{Op, Reply};
 use k42_quiesce::Grace;
 use k42_runtime::{History, Journal, Pass, Swap, System};
 use std::alloc::Global;
@@ -88,7 +89,7 @@ pub enum End {
     Whole(Whole),
     History(History),
     /// What the passes have drawn since the last one.
-    Section(Journal),
+    Section(Journal<Op, Reply>),
 }
 
 /// What a handle has in it.

@@ -9,6 +9,8 @@ use Rattle.std.proofs.Math.Seq.{drop-cons}
 use Rattle.k42_kinds.specs.Histories.{entries_of}
 use Rattle.k42_kinds.specs.Legal.{IsLegalAct, IsLegalAnswer}
 use Rattle.k42_kinds.specs.declared.operation.KindName.{KindName}
+use Rattle.k42_kinds.specs.declared.operation.Op.{Op}
+use Rattle.k42_kinds.specs.declared.operation.Reply.{Reply}
 use Rattle.k42_kinds.specs.declared.entry.Act.{Act}
 use Rattle.k42_kinds.specs.declared.entry.Act.TheVariants.{Call, Swap}
 use Rattle.k42_kinds.specs.declared.entry.Answer.{Answer}
@@ -70,11 +72,11 @@ pub All-found : {X : Type 0} (P : X → Type 0) (xs : List X) (n : ℕ) (x : X) 
 All-found P xs n x all found = subst P (get_or_from_slice_get xs n x x found) (all n x (slice_get_within xs n x found))
 
 -- the entries of a caller, where one of them stands between others
-entries_of-split : (caller : ℕ) (before : List Entry) (entry : Entry) (after : List Entry) → entry.caller ≡ caller → entries_of caller (before ++ entry ∷ after) ≡ entries_of caller before ++ entry ∷ entries_of caller after
+entries_of-split : (caller : ℕ) (before : List (Entry Op Reply)) (entry : Entry Op Reply) (after : List (Entry Op Reply)) → entry.caller ≡ caller → entries_of caller (before ++ entry ∷ after) ≡ entries_of caller before ++ entry ∷ entries_of caller after
 entries_of-split caller before entry after own = filter-append _ before (entry ∷ after) ∙ rw (eq-eqb entry.caller caller own) refl
 
 -- how an act may legally be answered, it may be spelled
-ends_swap : (kind : KindName) (before : List Entry) (entry : Entry) (after : List Entry) (answer : Answer) → IsNotGivenUp answer → IsLegalAnswer kind before entry after answer → EndsSwap answer
+ends_swap : (kind : KindName) (before : List (Entry Op Reply)) (entry : Entry Op Reply) (after : List (Entry Op Reply)) (answer : Answer Reply) → IsNotGivenUp answer → IsLegalAnswer kind before entry after answer → EndsSwap answer
 ends_swap kind before entry after (Swapped number) kept legal = tt
 ends_swap kind before entry after Spent kept legal = tt
 ends_swap kind before entry after Gone kept legal = tt
@@ -82,29 +84,29 @@ ends_swap kind before entry after (Busy number) kept legal = omega (arith, legal
 ends_swap kind before entry after (Abandoned number) kept legal = kept
 ends_swap kind before entry after (Replied reply) kept legal = legal
 
-ends_act : (kind : KindName) (before : List Entry) (entry : Entry) (after : List Entry) (act : Act) → IsNotGivenUp entry.answer → IsLegalAct kind before entry after act → Ends act entry.answer
+ends_act : (kind : KindName) (before : List (Entry Op Reply)) (entry : Entry Op Reply) (after : List (Entry Op Reply)) (act : Act Op) → IsNotGivenUp entry.answer → IsLegalAct kind before entry after act → Ends act entry.answer
 ends_act kind before entry after (Call op) kept legal = subst EndsCall (sym legal.replied) tt
 ends_act kind before entry after (Swap to) kept legal = ends_swap kind before entry after entry.answer kept legal
 
 -- the line that an entry answers
-record Answers (script : Script) (entry : Entry) : Type 0 where
+record Answers (script : Script) (entry : Entry Op Reply) : Type 0 where
   has : HasLine script entry
   kind : KindName
   declared : slice_get (kinds_of script) entry.object ≡ Some kind
   asked : IsActOn kind entry.act
   ends : Ends entry.act entry.answer
 
-module _ (script : Script) (sound : IsSound script) (history : List Entry) (lawful : IsLawful script history) where
+module _ (script : Script) (sound : IsSound script) (history : List (Entry Op Reply)) (lawful : IsLawful script history) where
   -- each entry of a worker is the deed of one of its lines
-  pub deed_by : (before : List Entry) (entry : Entry) (after : List Entry) → history ≡ before ++ entry ∷ after → (worker : WorkerLines) → slice_get script.workers entry.caller ≡ Some worker → IsDeedAt (call_lines worker.items) 0 (length (map deed_of (entries_of entry.caller before))) (deed_of entry)
+  pub deed_by : (before : List (Entry Op Reply)) (entry : Entry Op Reply) (after : List (Entry Op Reply)) → history ≡ before ++ entry ∷ after → (worker : WorkerLines) → slice_get script.workers entry.caller ≡ Some worker → IsDeedAt (call_lines worker.items) 0 (length (map deed_of (entries_of entry.caller before))) (deed_of entry)
   deed_by before entry after e worker found =
       let caller = entry.caller in
       let own = lawful.in_order caller worker found in
       let split : map deed_of (entries_of caller before) ++ deed_of entry ∷ map deed_of (entries_of caller after) ≡ deeds_from 0 (call_lines worker.items) =
-      sym (map-append deed_of (entries_of caller before) (entry ∷ entries_of caller after)) ∙ ap (map deed_of) (sym (entries_of-split caller before entry after refl)) ∙ ap (λ (h : List Entry). map deed_of (entries_of caller h)) (sym e) ∙ own in
+      sym (map-append deed_of (entries_of caller before) (entry ∷ entries_of caller after)) ∙ ap (map deed_of) (sym (entries_of-split caller before entry after refl)) ∙ ap (λ (h : List (Entry Op Reply)). map deed_of (entries_of caller h)) (sym e) ∙ own in
       deeds_from-split (call_lines worker.items) 0 (map deed_of (entries_of caller before)) (deed_of entry) (map deed_of (entries_of caller after)) (sym split)
 
-  answers_by : (before : List Entry) (entry : Entry) (after : List Entry) → history ≡ before ++ entry ∷ after → (worker : WorkerLines) → slice_get script.workers entry.caller ≡ Some worker → Answers script entry
+  answers_by : (before : List (Entry Op Reply)) (entry : Entry Op Reply) (after : List (Entry Op Reply)) → history ≡ before ++ entry ∷ after → (worker : WorkerLines) → slice_get script.workers entry.caller ≡ Some worker → Answers script entry
   answers_by before entry after e worker found =
       let caller = entry.caller in
       let deed = deed_by before entry after e worker found in
@@ -118,13 +120,13 @@ module _ (script : Script) (sound : IsSound script) (history : List Entry) (lawf
         };
         kind = line.kind;
         declared = ap (slice_get (kinds_of script)) deed.object ∙ line.declared;
-        asked = subst (λ (act : Act). IsActOn line.kind act) (sym deed.act) line.asked;
-        ends = ends_act legal.kind before entry after entry.act (All-at_split (λ (other : Entry). IsNotGivenUp other.answer) history lawful.none_given_up before entry after e) legal.legal;
+        asked = subst (λ (act : Act Op). IsActOn line.kind act) (sym deed.act) line.asked;
+        ends = ends_act legal.kind before entry after entry.act (All-at_split (λ (other : Entry Op Reply). IsNotGivenUp other.answer) history lawful.none_given_up before entry after e) legal.legal;
       }
 
-  answers : (before : List Entry) (entry : Entry) (after : List Entry) → history ≡ before ++ entry ∷ after → Answers script entry
+  answers : (before : List (Entry Op Reply)) (entry : Entry Op Reply) (after : List (Entry Op Reply)) → history ≡ before ++ entry ∷ after → Answers script entry
   answers before entry after e =
-      let worker = found_at script.workers entry.caller (All-at_split (λ (other : Entry). other.caller < length script.workers) history lawful.no_stranger before entry after e) in
+      let worker = found_at script.workers entry.caller (All-at_split (λ (other : Entry Op Reply). other.caller < length script.workers) history lawful.no_stranger before entry after e) in
       answers_by before entry after e worker.0 worker.1
 
   -- each entry is that of a line
@@ -132,24 +134,24 @@ module _ (script : Script) (sound : IsSound script) (history : List Entry) (lawf
   lines_there = each_all (HasLine script) history (λ before entry after e. (answers before entry after e).has)
 
   -- what a record of this version tells of an entry
-  told_by : (version : ℕ) → IsVersion version → (entry : Entry) → HasGeneration entry.act entry.generation → IsOfVersion version (line_of script version entry)
+  told_by : (version : ℕ) → IsVersion version → (entry : Entry Op Reply) → HasGeneration entry.act entry.generation → IsOfVersion version (line_of script version entry)
   told_by version (inl one) entry has = rw one (record { told = refl })
   told_by version (inr two) entry has = rw two (record { told = (refl, has) })
 
   -- and the record of all has a text
-  pub text_there : All (λ (entry : Entry). HasGeneration entry.act entry.generation) history → (version : ℕ) → IsVersion version → HasText script (record_of script history version)
+  pub text_there : All (λ (entry : Entry Op Reply). HasGeneration entry.act entry.generation) history → (version : ℕ) → IsVersion version → HasText script (record_of script history version)
   text_there has version is = record {
     version = is;
     spelled = All-map (HasSpelling script) (line_of script version) history (each_all (λ entry. HasSpelling script (line_of script version entry)) history (λ before entry after e.
         let a = answers before entry after e in
         record { by_worker = a.has.caller; kind = a.kind; of_object = a.declared; asked = a.asked; answered = a.ends }));
     told = All-map (IsOfVersion version) (line_of script version) history (each_all (λ entry. IsOfVersion version (line_of script version entry)) history (λ before entry after e.
-        told_by version is entry (All-at_split (λ (other : Entry). HasGeneration other.act other.generation) history has before entry after e)));
+        told_by version is entry (All-at_split (λ (other : Entry Op Reply). HasGeneration other.act other.generation) history has before entry after e)));
   }
 
 -- what a run gives is a run
 pub run_of : (script : Script) → IsSound script → (history : HistorySeen) → IsLawful script history.entries → history.plan ≡ plan_due script → ((version : ℕ) → IsLawfulRecord script (record_of script history.entries version))
-    → All (λ (entry : Entry). HasGeneration entry.act entry.generation) history.entries → IsRun script history
+    → All (λ (entry : Entry Op Reply). HasGeneration entry.act entry.generation) history.entries → IsRun script history
 run_of script sound history lawful plan judged has = record {
   lawful = lawful;
   plan = plan;

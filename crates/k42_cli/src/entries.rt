@@ -1,22 +1,23 @@
 //! The entries of a history, one after the other.
 
 use k42_entries::Entries;
+use k42_kinds::{Op, Reply};
 use k42_runtime::{Entry, Reader};
 
 /// Those that were not read yet.
 #[derive(Drop)]
 pub struct Unread<'a> {
-    pub reader: Reader<'a>,
+    pub reader: Reader<'a, Op, Reply>,
 }
 
-impl<'a> Entries for Unread<'a> {
+impl<'a> Entries<Op, Reply> for Unread<'a> {
     ghost left = { λ unread. unread.reader };
 
     fn len(&self) -> usize {
         self.reader.len()
     }
 
-    fn next(&mut self) -> Option<Entry> {
+    fn next(&mut self) -> Option<Entry<Op, Reply>> {
         self.reader.next()
     }
 }

@@ -17,6 +17,8 @@ use Rattle.k42_runtime.specs.Systems.{SystemSeen, IsAtRest, IsPlanned, HasStarte
 use Rattle.k42_runtime.specs.declared.swaps.Stage.{Stage}
 use Rattle.k42_runtime.specs.declared.swaps.Stage.TheVariants as stages
 use Rattle.k42_board.specs.Skipping.{greatest_clock}
+use Rattle.k42_kinds.specs.declared.operation.Op.{Op}
+use Rattle.k42_kinds.specs.declared.operation.Reply.{Reply}
 use Rattle.k42_kinds.specs.declared.entry.Entry.{Entry}
 use Rattle.k42_places.specs.Places.{EachPlace}
 use Rattle.k42_places.proofs.EachPlaces.{EachPlace-list_all}
@@ -49,7 +51,7 @@ all_free system (pass ∷ passes) each = (each 0 pass refl, all_free system pass
 pub started_free : (plan : PlanSeen) (system : SystemSeen) (passes : List SystemPass) → HasStarted plan system passes → AreFree system passes
 started_free plan system passes is =
     all_free system passes (λ i pass at.
-    let first = is.each i pass at in record { here = first.here; rests = ap (λ (v : PassView SystemPart). is_at_rest v) first.new })
+    let first = is.each i pass at in record { here = first.here; rests = ap (λ (v : PassView SystemPart Op Reply). is_at_rest v) first.new })
 
 -- passes that are counted up from a first one
 counted_up : (first : ℕ) (passes : List SystemPass) → ((i : ℕ) (pass : SystemPass) → slice_get passes i ≡ Some pass → pass.view.number ≡ first + i)
@@ -63,7 +65,7 @@ counted_up first (pass ∷ passes) each =
 
 pub started_all : (plan : PlanSeen) (system : SystemSeen) (passes : List SystemPass) → HasStarted plan system passes → AreAll system passes
 started_all plan system passes is =
-    let up = counted_up 0 passes (λ i pass at. ap (λ (v : PassView SystemPart). v.number) (is.each i pass at).new ∙ sym (zero-add i)) in
+    let up = counted_up 0 passes (λ i pass at. ap (λ (v : PassView SystemPart Op Reply). v.number) (is.each i pass at).new ∙ sym (zero-add i)) in
     let many : length passes ≡ length system.plan.callers = is.many ∙ sym (ap (λ (p : PlanSeen). length p.callers) is.plan_is) in
     subst (λ n. callers_of passes ≡ range_with_len 0 n) many up
 
@@ -143,7 +145,7 @@ given_callers stamp [] = refl
 given_callers stamp (pass ∷ passes) = ap (λ numbers. pass.view.number ∷ numbers) (given_callers stamp passes)
 
 -- of that only the clocks are others, and what is given
-module _ (system : SystemSeen) (old new : List SystemPass) (section : List Entry) (is : IsSection old new section) where
+module _ (system : SystemSeen) (old new : List SystemPass) (section : List (Entry Op Reply)) (is : IsSection old new section) where
   pub section_free : AreFree system old → AreFree system new
   section_free free = subst (AreFree system) (sym is.passes) (given_free system (greatest_clock (views_of old)) old free)
 

@@ -9,8 +9,8 @@ use Rattle.turn_core.specs.Stamps.{last_stamp}
 use Rattle.k42_board.specs.declared.view.PassView.{PassView}
 
 -- It has one entry more, that of the call, which is later than those before it, in the generation of its activity.
-pub record HasCalledOnce {P : Type 0} (object : ℕ) (op : Op) (reply : Reply) (old new : PassView P) : Type 0 where
-  pub entry : Entry
+pub record HasCalledOnce {P : Type 0} (object : ℕ) (op : Op) (reply : Reply) (old new : PassView P Op Reply) : Type 0 where
+  pub entry : Entry Op Reply
   pub generation : ℕ
   pub drawn : new.taker.mine ≡ old.taker.mine ++ entry ∷ []
   pub later : last_stamp old.taker.mine < entry.stamp

@@ -6,6 +6,7 @@ ghost use Rattle.k42_rule.specs.Sections.{AreEven};
 ghost use Rattle.k42_runtime.specs.Sections.{IsSection};
 
 use crate::crews::are_all;
+use k42_kinds::{Op, Reply};
 use k42_memory::Memory;
 use k42_runtime::{Journal, Keep, Pass, System};
 use std::alloc::Global;
@@ -35,7 +36,7 @@ pub fn section(
     alloc: Global,
     system: &System,
     passes: &mut [Pass],
-) -> Result<Option<Journal>, Memory>
+) -> Result<Option<Journal<Op, Reply>>, Memory>
     requires { AreFree system.now passes.old }
     ensures whole { IfOk result (λ section. IsSome section ↔ MayGive system.now passes.old) }
     ensures given { IfOk result (λ section. IfSome section (IsSection passes.old passes.new)) }

@@ -2,6 +2,8 @@
 -- are begun, two of them given up, under callers that are refused, wait, and call.
 use Rattle.std.proofs.Common.{◌≡◌, ℕ, Bool, true, false, ◌&&◌, cond, ltb, List, [], ◌∷◌, Option, Some, None, map, refl}
 use Rattle.gen_core.specs.declared.event.GenEvent.TheVariants.{Enter, Flip, GiveRole, Leave, Look, LookAhead}
+use Rattle.k42_kinds.specs.declared.operation.Op.{Op}
+use Rattle.k42_kinds.specs.declared.operation.Reply.{Reply}
 use Rattle.k42_kinds.specs.declared.entry.Act.{Act}
 use Rattle.k42_kinds.specs.declared.entry.Act.TheVariants.{Call, Swap}
 use Rattle.k42_kinds.specs.declared.entry.To.TheVariants.{Layout, Dead}
@@ -30,7 +32,7 @@ use Rattle.k42_joined.specs.Swapping.{may_at_phases}
 use Rattle.k42_joined.specs.Touching.{may_touch}
 
 -- a layout is its tag here: one object, spread, on one processor, and four callers
-abbrev begin : Joined ℕ
+abbrev begin : Joined ℕ Op Reply
 begin = record {
   phases = new_phases 1 (1 ∷ []) (0 ∷ 0 ∷ 0 ∷ 0 ∷ []);
   turns = cells.fresh (first_lives 1) 4;
@@ -38,31 +40,31 @@ begin = record {
   kept = nothing_kept ∷ nothing_kept ∷ nothing_kept ∷ nothing_kept ∷ [];
 }
 
-abbrev may_lock : Joined ℕ → ℕ → ℕ → Bool
+abbrev may_lock : Joined ℕ Op Reply → ℕ → ℕ → Bool
 may_lock s c n = ltb (object_of n) (many_objects s) && (ltb (place_of n) (many_procs s) && may_touch s.phases c (object_of n) (cell s n).life)
 
-abbrev may_beside : Joined ℕ → TurnEvent → Bool
+abbrev may_beside : Joined ℕ Op Reply → TurnEvent Op Reply → Bool
 may_beside s (Lock c n) = may_lock s c n
 may_beside s (Take c n) = may_lock s c n
 may_beside s (Put c n) = may_lock s c n
 may_beside s event = true
 
 -- what an event is answered, as far as the two machines, locks and swaps decide it
-abbrev answer : Joined ℕ → Event ℕ → Bool
+abbrev answer : Joined ℕ Op Reply → Event ℕ Op Reply → Bool
 answer s (AtPhases event) = phases.is_possible s.phases event && may_at_phases s (λ tag. tag) event
 answer s (AtCells event) = turns.is_possible s.turns event && may_beside s event
 answer s (HandWith c from onto layout entry) = false
 
 -- what each is answered, one after the other
-abbrev answers : List (Event ℕ × Bool) → Joined ℕ → List Bool
+abbrev answers : List (Event ℕ Op Reply × Bool) → Joined ℕ Op Reply → List Bool
 answers [] s = []
 answers (one ∷ more) s = answer s one.0 ∷ answers more (cond one.1 (effect s one.0) s)
 
-abbrev run : List (Event ℕ × Bool) → Joined ℕ → Joined ℕ
+abbrev run : List (Event ℕ Op Reply × Bool) → Joined ℕ Op Reply → Joined ℕ Op Reply
 run [] s = s
 run (one ∷ more) s = run more (cond one.1 (effect s one.0) s)
 
-abbrev entry : ℕ → ℕ → ℕ → ℕ → ℕ → Act → Answer → Option ℕ → Entry
+abbrev entry : ℕ → ℕ → ℕ → ℕ → ℕ → Act Op → Answer Reply → Option ℕ → Entry Op Reply
 entry stamp caller index incarnation cell act answer generation = record {
   stamp = stamp;
   caller = caller;
@@ -76,7 +78,7 @@ entry stamp caller index incarnation cell act answer generation = record {
   generation = generation;
 }
 
-abbrev events : List (Event ℕ × Bool)
+abbrev events : List (Event ℕ Op Reply × Bool)
 events =
     (AtPhases (Turn (Enter 2)), true) ∷
     (AtPhases (Begin 1 0), true) ∷
@@ -175,7 +177,7 @@ each_answer : answers events begin ≡ map (λ one. one.1) events
 each_answer = refl
 
 -- the last state
-abbrev last : Joined ℕ
+abbrev last : Joined ℕ Op Reply
 last = run events begin
 
 still_blocking : (visitor_at last.phases 1).swap ≡ Blocking 0
@@ -187,10 +189,10 @@ places = refl
 two_counted : (object_at last.phases 0).count ≡ 2
 two_counted = refl
 
-stamps_at_the_cell : map (λ (e : Entry). e.stamp) (cell last 0).history ≡ 2 ∷ 3 ∷ []
+stamps_at_the_cell : map (λ (e : Entry Op Reply). e.stamp) (cell last 0).history ≡ 2 ∷ 3 ∷ []
 stamps_at_the_cell = refl
 
-stamps_of_callers : map (λ x. map (λ (e : Entry). e.stamp) x.mine) last.turns.callers ≡ (1 ∷ 2 ∷ []) ∷ (1 ∷ 2 ∷ []) ∷ (1 ∷ 2 ∷ 3 ∷ []) ∷ (1 ∷ []) ∷ []
+stamps_of_callers : map (λ x. map (λ (e : Entry Op Reply). e.stamp) x.mine) last.turns.callers ≡ (1 ∷ 2 ∷ []) ∷ (1 ∷ 2 ∷ []) ∷ (1 ∷ 2 ∷ 3 ∷ []) ∷ (1 ∷ []) ∷ []
 stamps_of_callers = refl
 
 abandoned_once : map (λ k. k.abandoned) last.kept ≡ false ∷ true ∷ false ∷ false ∷ []

@@ -38,14 +38,14 @@ use Rattle.k42_joined.proofs.AnswersWords.{IsSameWord, same_word, same_number, w
 use Rattle.k42_joined.proofs.Timely.{IsTimelyLast, timely_push}
 
 -- what an answer tells of the word that was found
-pub record IsOfWord (k : Object) (answer : Answer) : Type 0 where
+pub record IsOfWord {R : Type 0} (k : Object) (answer : Answer R) : Type 0 where
   pub over : IsTrueOf k k.incarnation answer
   pub number : (n : ℕ) → answer ≡ Busy n → n ≡ swap_number k
   pub swap : (n : ℕ) → answer ≡ Busy n → k.swap ≡ true
   pub live : (n : ℕ) → answer ≡ Busy n → (k.layout ≢ 2) × (k.incarnation ≢ LAST_INCARNATION)
   pub free : k.swap ≡ false → is_over k ≡ true
 
-found_word : (k : Object) (answer : Answer) → answer_found k ≡ Some answer → IsOfWord k answer
+found_word : {R : Type 0} (k : Object) (answer : Answer R) → answer_found k ≡ Some answer → IsOfWord k answer
 found_word k answer found = by_layout (eqb k.layout 2) refl (eqb k.incarnation LAST_INCARNATION) refl k.swap refl found where
   by_layout : (a : Bool) → eqb k.layout 2 ≡ a → (b : Bool) → eqb k.incarnation LAST_INCARNATION ≡ b → (w : Bool) → k.swap ≡ w
       → cond a (Some Gone) (cond b (Some Spent) (cond w (Some (Busy (swap_number k))) None)) ≡ Some answer → IsOfWord k answer
@@ -104,7 +104,7 @@ complete_after b layout i (Reopening o p) bits is = let clear = bits.2 in absurd
 complete_after b layout i (Opened o) bits is = ⊎_elim (λ clear. let none = clear.2 in absurd (cc)) (λ set_is. set_is.1) bits
 
 -- the number of a carried-out swap, by its answer
-carried_low : (answer : Answer) (n : ℕ) → ((j : ℕ) → answer ≡ Swapped j → j ≤ n) → number_carried_out answer ≤ n
+carried_low : {R : Type 0} (answer : Answer R) (n : ℕ) → ((j : ℕ) → answer ≡ Swapped j → j ≤ n) → number_carried_out answer ≤ n
 carried_low (Swapped j) n low = low j refl
 carried_low answer n low = omega arith
 
@@ -112,19 +112,19 @@ from_is_idle : (swap : SwapAt) → is_idle swap ≡ true → swap ≡ Idle
 from_is_idle Idle is = refl
 from_is_idle swap is = absurd (cc)
 
-module _ {L : Type 0} (s : Joined L) (sound : phases.IsSound s.phases) (locked : AreLocked s) (answered : AreAnswered s)
+module _ {L O R : Type 0} (s : Joined L O R) (sound : phases.IsSound s.phases) (locked : AreLocked s) (answered : AreAnswered s)
     (c : ℕ) (there : c < many_callers s) (at : swap_of s c ≡ Idle) (q : ℕ) (named : q < many_objects s) where
   abbrev k : Object
   k = object s q
 
-  abbrev own : Kept
+  abbrev own : Kept R
   own = record (kept_of s c) { begun = Some q; found = answer_found k }
 
-  abbrev kept : List Kept
+  abbrev kept : List (Kept R)
   kept = keep s c own
 
   -- the state with these phases
-  abbrev with_phases : Phases → Joined L
+  abbrev with_phases : Phases → Joined L O R
   with_phases p = record s { phases = p; kept = kept }
 
   kept_here : (p : Phases) → kept_of (with_phases p) c ≡ own
@@ -154,7 +154,7 @@ module _ {L : Type 0} (s : Joined L) (sound : phases.IsSound s.phases) (locked :
   refused_over (Refused o) bits is = bits.1
   refused_over swap bits is = absurd (cc)
 
-  rival_found : (answer : Answer) (n : ℕ) → IsOfWord k answer → answer ≡ Busy n → IsUnderWay s c q n
+  rival_found : (answer : Answer R) (n : ℕ) → IsOfWord k answer → answer ≡ Busy n → IsUnderWay s c q n
   rival_found answer n word busy =
       let found = (one_swap s.phases sound q named).swapper (word.swap n busy) in
       let d = found.0 in
@@ -174,7 +174,7 @@ module _ {L : Type 0} (s : Joined L) (sound : phases.IsSound s.phases) (locked :
           let live = word.live n busy in absurd (⊎_elim (λ two. live.0 two) (λ last. live.1 last) (refused_over (swap_of s d) bits is))
       by_test d bits false is = refl
 
-  found_timely : (answer : Answer) → IsOfWord k answer → (number : ℕ) (e : Entry) → answer ≡ Busy number → IsBusyOf c q number e
+  found_timely : (answer : Answer R) → IsOfWord k answer → (number : ℕ) (e : Entry O R) → answer ≡ Busy number → IsBusyOf c q number e
       → AreTimely (mine s c ++ e ∷ [])
   found_timely answer word number e busy of =
       timely_push (mine s c) e (answered c there).timely
@@ -183,16 +183,16 @@ module _ {L : Type 0} (s : Joined L) (sound : phases.IsSound s.phases) (locked :
       subst (IsTimelyLast (mine s c) e) same (record { incarnation = of.incarnation; earlier = λ f is own. not_past f is (own.object ∙ of.object) }))
       (λ n said. let bad : Busy number ≡ Abandoned n = sym of.answer ∙ said in absurd (cc))
     where
-      each : (f : Entry) → In f (mine s c) → IsAnswer s c f
+      each : (f : Entry O R) → In f (mine s c) → IsAnswer s c f
       each f is = (answered c there).each f is
 
-      cc_number : {m n : ℕ} → Busy m ≡ Busy n → m ≡ n
+      cc_number : {m n : ℕ} → ◌≡◌ {A = Answer R} (Busy m) (Busy n) → m ≡ n
       cc_number same = cc
 
       here : number ≡ swap_number k
       here = word.number number busy
 
-      low : (f : Entry) (m : ℕ) → IsOwn f e → m ≤ swap_number (object s f.object) → m ≤ e.incarnation + 1
+      low : (f : Entry O R) (m : ℕ) → IsOwn f e → m ≤ swap_number (object s f.object) → m ≤ e.incarnation + 1
       low f m own le =
           let same : f.object ≡ q = sym own.object ∙ of.object in
           let le' : m ≤ swap_number k = subst (λ o. m ≤ swap_number (object s o)) same le in
@@ -200,7 +200,7 @@ module _ {L : Type 0} (s : Joined L) (sound : phases.IsSound s.phases) (locked :
           let number_is = here in
           omega (arith, le', before, number_is)
 
-      not_past : (f : Entry) → In f (mine s c) → f.object ≡ q → IsNotPast number f
+      not_past : (f : Entry O R) → In f (mine s c) → f.object ≡ q → IsNotPast number f
       not_past f is same =
           let known : f.incarnation ≤ incarnation s q = subst (λ o. f.incarnation ≤ incarnation s o) same (each f is).known in
           let up = number_up k in
@@ -218,14 +218,14 @@ module _ {L : Type 0} (s : Joined L) (sound : phases.IsSound s.phases) (locked :
   -- with phases in which the words are the same
   module _ (p : Phases) (moves : MovesOn s (with_phases p) c) (words : (o : ℕ) → IsSameWord (object s o) (object (with_phases p) o))
       (begun : (o : ℕ) → named_by (swap_of (with_phases p) c) ≡ Some o → q ≡ o)
-      (found : (answer : Answer) → answer_found k ≡ Some answer → is_idle (swap_of (with_phases p) c) || is_refused (swap_of (with_phases p) c) ≡ true)
+      (found : (answer : Answer R) → answer_found k ≡ Some answer → is_idle (swap_of (with_phases p) c) || is_refused (swap_of (with_phases p) c) ≡ true)
       (not_moved' : (o : ℕ) → swap_of (with_phases p) c ≡ Moved o → ⊥)
       (not_turned : (l : Object) → is_turned (swap_of (with_phases p) c) l ≡ true → ⊥)
       (not_given : (l : Object) (o : ℕ) → is_given_up (swap_of (with_phases p) c) l o ≡ true → ⊥) where
-    abbrev t : Joined L
+    abbrev t : Joined L O R
     t = with_phases p
 
-    found_here : (answer : Answer) → answer_found k ≡ Some answer → IsFound t c q answer
+    found_here : (answer : Answer R) → answer_found k ≡ Some answer → IsFound t c q answer
     found_here answer is =
         let word = found_word k answer is in
         let same = same_number k (object t q) (words q) in
@@ -241,15 +241,15 @@ module _ {L : Type 0} (s : Joined L) (sound : phases.IsSound s.phases) (locked :
     begin_keeps =
         own_keeps s t sound answered c there moves
         (record {
-          begun = λ o name. ap (λ (x : Kept). x.begun) (kept_here p) ∙ ap Some (begun o name);
+          begun = λ o name. ap (λ (x : Kept R). x.begun) (kept_here p) ∙ ap Some (begun o name);
           there = λ o is.
-              let same : q ≡ o = same_Some q o (sym (ap (λ (x : Kept). x.begun) (kept_here p)) ∙ is) in
+              let same : q ≡ o = same_Some q o (sym (ap (λ (x : Kept R). x.begun) (kept_here p)) ∙ is) in
               rw moves.objects (subst (λ r. r < many_objects s) same named);
-          found = λ answer is. found answer (sym (ap (λ (x : Kept). x.found) (kept_here p)) ∙ is);
+          found = λ answer is. found answer (sym (ap (λ (x : Kept R). x.found) (kept_here p)) ∙ is);
         })
         (λ o answer is said.
-        let same : q ≡ o = same_Some q o (sym (ap (λ (x : Kept). x.begun) (kept_here p)) ∙ is) in
-        subst (λ r. IsFound t c r answer) same (found_here answer (sym (ap (λ (x : Kept). x.found) (kept_here p)) ∙ said)))
+        let same : q ≡ o = same_Some q o (sym (ap (λ (x : Kept R). x.begun) (kept_here p)) ∙ is) in
+        subst (λ r. IsFound t c r answer) same (found_here answer (sym (ap (λ (x : Kept R). x.found) (kept_here p)) ∙ said)))
         (λ o name. record {
           handed = λ moved handed. absurd (not_moved' o moved);
           turned = λ is. absurd (not_turned (object t o) is);
@@ -332,7 +332,7 @@ module _ {L : Type 0} (s : Joined L) (sound : phases.IsSound s.phases) (locked :
   begun_answers true is = found_busy
   begun_answers false is = begun_free is
 
-pub begin_answers : {S L P : Type 0} (F : Layouts S L P) (declared : List L) (s : Joined L) → phases.IsSound s.phases → AreLocked s → AreAnswered s
+pub begin_answers : {S L P O R : Type 0} (F : Layouts S L P O R) (declared : List L) (s : Joined L O R) → phases.IsSound s.phases → AreLocked s → AreAnswered s
     → (c q : ℕ) → c < many_callers s → MayAtPhases F declared s (Begin c q) → AreAnswered (effect s (AtPhases (Begin c q)))
 begin_answers F declared s sound locked answered c q there may =
     begun_answers s sound locked answered c there

@@ -33,9 +33,9 @@ use Rattle.k42_joined.proofs.RowsDraw.{IsCoreDraw}
 use Rattle.k42_joined.proofs.RowsHistories.{at_present_life}
 use Rattle.k42_joined.proofs.RowsStamps.{above_cell}
 
-module _ {S L P : Type 0} (F : Layouts S L P) (laws : AreLaws F) (declared : List L) (s : Joined L)
+module _ {S L P O R : Type 0} (F : Layouts S L P O R) (laws : AreLaws F) (declared : List L) (s : Joined L O R)
     (sound : phases.IsSound s.phases) (turns_sound : turns.IsSound s.turns) (locked : AreLocked s) (rows : Fitting F declared s)
-    (answered : AreAnswered s) (c : ℕ) (cells : List ℕ) (e : Entry) (there : c < many_callers s) (core : IsCoreDraw s.turns c cells e)
+    (answered : AreAnswered s) (c : ℕ) (cells : List ℕ) (e : Entry O R) (there : c < many_callers s) (core : IsCoreDraw s.turns c cells e)
     (drawn : IsDrawn F declared s c cells e) where
   abbrev o : ℕ
   o = e.object
@@ -65,17 +65,17 @@ module _ {S L P : Type 0} (F : Layouts S L P) (laws : AreLaws F) (declared : Lis
       ∙ at_present_life (cell_in s o i 0) (i / 2) (locked.lives o 0 drawn.named some_procs).present.past
 
   -- the entry with which the row began is in the history of its first cell
-  first_below : (past : List (Turn L P)) → at.chain.past ≡ past → names cells (cell_of o i 0) ≡ true → (f : Entry) → IsUpTo past f → f.stamp < e.stamp
+  first_below : (past : List (Turn L P O R)) → at.chain.past ≡ past → names cells (cell_of o i 0) ≡ true → (f : Entry O R) → IsUpTo past f → f.stamp < e.stamp
   first_below [] is named f low = absurd low
   first_below (turn ∷ past) is named f low =
       let left = at.has.rows.fits.left 0 laws.some in
       let begun : In turn.done (first_of at.chain.past) = subst (λ p. In turn.done (first_of p)) (sym is) (inl refl) in
       let inside : In turn.done (history_in s o (length at.chain.past) 0) =
-      subst (λ (h : List Entry). In turn.done h) (sym left) (in_left turn.done (first_of at.chain.past) (those_at F at.chain.row.layout 0 at.chain.row.entries) begun) in
-      let less = above_cell s.turns turns_sound c cells e core.next (cell_of o i 0) named turn.done (subst (λ (h : List Entry). In turn.done h) history_first inside) in
+      subst (λ (h : List (Entry O R)). In turn.done h) (sym left) (in_left turn.done (first_of at.chain.past) (those_at F at.chain.row.layout 0 at.chain.row.entries) begun) in
+      let less = above_cell s.turns turns_sound c cells e core.next (cell_of o i 0) named turn.done (subst (λ (h : List (Entry O R)). In turn.done h) history_first inside) in
       omega (arith, less, low)
 
-  mark_last : names cells (cell_of o i 0) ≡ true → (d n : ℕ) (other : Entry) → d < many_callers s → In other (mine s d) → other.object ≡ o
+  mark_last : names cells (cell_of o i 0) ≡ true → (d n : ℕ) (other : Entry O R) → d < many_callers s → In other (mine s d) → other.object ≡ o
       → other.answer ≡ Swapped n → other.stamp < e.stamp
   mark_last named d n other within listed same answer =
       let is = done_at F laws declared s turns_sound locked rows answered d n other within listed answer o same at in
@@ -86,7 +86,7 @@ module _ {S L P : Type 0} (F : Layouts S L P) (laws : AreLaws F) (declared : Lis
       rw mark.first (ap (λ j. eqb (cell_of o j 0) (cell_of o i 0) || false) mark.present ∙ ap (λ b. b || false) (eq-eqb (cell_of o i 0) (cell_of o i 0) refl))
 
   -- an entry drawn at cells
-  drawn_by : (act : Act) → e.act ≡ act → IsDrawnAs F declared s c cells e act
+  drawn_by : (act : Act O) → e.act ≡ act → IsDrawnAs F declared s c cells e act
       → AreAnswered (record s { turns = turn_events.effect s.turns (Draw c cells e); kept = kept_drawn s c false })
   drawn_by (Call op) is call =
       call_answers s locked answered c there e cells op call.reply is call.answer drawn.named drawn.present

@@ -19,25 +19,25 @@ use Rattle.k42_joined.specs.Locks.{AreLocked}
 use Rattle.k42_joined.specs.Refusals.{is_given_up}
 use Rattle.k42_joined.specs.State.{nothing_kept, many_callers, object, incarnation, swap_of, mine, kept_of, is_handed}
 
-module _ {L : Type 0} (s : Joined L) (c : ℕ) (e : Entry) (abandons : Bool) (turns : Turns) (hands : List (List L)) where
-  abbrev pub t : Joined L
+module _ {L O R : Type 0} (s : Joined L O R) (c : ℕ) (e : Entry O R) (abandons : Bool) (turns : Turns O R) (hands : List (List L)) where
+  abbrev pub t : Joined L O R
   t = record { phases = s.phases; turns = turns; hands = hands; kept = kept_drawn s c abandons }
 
   -- an answer that was drawn is drawn still
   pub still_answered : mine t c ≡ mine s c ++ e ∷ [] → ((d : ℕ) → d ≢ c → mine t d ≡ mine s d)
-      → (d o : ℕ) (told : Answer) → HasAnswered s d o told → HasAnswered t d o told
+      → (d o : ℕ) (told : Answer R) → HasAnswered s d o told → HasAnswered t d o told
   still_answered own mines d o told has =
       ⊎_elim {C = HasAnswered t d o told}
       (λ (same : d ≡ c).
       let here : In has.entry (mine s c) = subst (λ g. In has.entry (mine s g)) same has.drawn in
       record {
         entry = has.entry;
-        drawn = subst (λ g. In has.entry (mine t g)) (sym same) (subst (λ (es : List Entry). In has.entry es) (sym own) (in_left has.entry (mine s c) (e ∷ []) here));
+        drawn = subst (λ g. In has.entry (mine t g)) (sym same) (subst (λ (es : List (Entry O R)). In has.entry es) (sym own) (in_left has.entry (mine s c) (e ∷ []) here));
         object = has.object;
         answer = has.answer;
       })
       (λ (other : d ≢ c).
-      record { entry = has.entry; drawn = subst (λ (es : List Entry). In has.entry es) (sym (mines d other)) has.drawn; object = has.object; answer = has.answer })
+      record { entry = has.entry; drawn = subst (λ (es : List (Entry O R)). In has.entry es) (sym (mines d other)) has.drawn; object = has.object; answer = has.answer })
       (cases_eq d c)
 
   pub rival_own : mine t c ≡ mine s c ++ e ∷ [] → ((d : ℕ) → d ≢ c → mine t d ≡ mine s d) → (d o number : ℕ) → HasRival s d o number → HasRival t d o number
@@ -65,7 +65,7 @@ module _ {L : Type 0} (s : Joined L) (c : ℕ) (e : Entry) (abandons : Bool) (tu
   pub newly_answered : mine t c ≡ mine s c ++ e ∷ [] → HasAnswered t c e.object e.answer
   newly_answered own = record {
     entry = e;
-    drawn = subst (λ (es : List Entry). In e es) (sym own) (in_right e (mine s c) (e ∷ []) (inl refl));
+    drawn = subst (λ (es : List (Entry O R)). In e es) (sym own) (in_right e (mine s c) (e ∷ []) (inl refl));
     object = refl;
     answer = refl;
   }
@@ -81,32 +81,32 @@ module _ {L : Type 0} (s : Joined L) (c : ℕ) (e : Entry) (abandons : Bool) (tu
         → HasAnswered t c o (Abandoned (incarnation s o + 1))
     pub timely : AreTimely (mine s c ++ e ∷ [])
     -- no carried-out swap comes where the object is over
-    pub not_over : (f : Entry) (n : ℕ) → e.answer ≡ Swapped n → e.object ≡ f.object → tells_over f.answer ≡ true
+    pub not_over : (f : Entry O R) (n : ℕ) → e.answer ≡ Swapped n → e.object ≡ f.object → tells_over f.answer ≡ true
         → IsTrueOf (object s f.object) f.incarnation f.answer → ⊥
     pub new : IsAnswer t c e
 
   module _ (locked : AreLocked s) (answered : AreAnswered s) (on : DrawsOn) where
-    in_more : (d : ℕ) (f : Entry) → In f (mine s d) → In f (mine t d)
+    in_more : (d : ℕ) (f : Entry O R) → In f (mine s d) → In f (mine t d)
     in_more d f is =
         ⊎_elim
         (λ (same : d ≡ c). subst (λ g. In f (mine t g)) (sym same)
-        (subst (λ (es : List Entry). In f es) (sym on.own) (in_left f (mine s c) (e ∷ []) (subst (λ g. In f (mine s g)) same is))))
-        (λ (other : d ≢ c). subst (λ (es : List Entry). In f es) (sym (on.mines d other)) is)
+        (subst (λ (es : List (Entry O R)). In f es) (sym on.own) (in_left f (mine s c) (e ∷ []) (subst (λ g. In f (mine s g)) same is))))
+        (λ (other : d ≢ c). subst (λ (es : List (Entry O R)). In f es) (sym (on.mines d other)) is)
         (cases_eq d c)
 
-    in_split : (d : ℕ) (f : Entry) → In f (mine t d) → ((d ≡ c) × (f ≡ e)) ⊎ In f (mine s d)
+    in_split : (d : ℕ) (f : Entry O R) → In f (mine t d) → ((d ≡ c) × (f ≡ e)) ⊎ In f (mine s d)
     in_split d f is =
         ⊎_elim {C = ((d ≡ c) × (f ≡ e)) ⊎ In f (mine s d)}
         (λ (same : d ≡ c).
-        let here : In f (mine s c ++ e ∷ []) = subst (λ (es : List Entry). In f es) on.own (subst (λ g. In f (mine t g)) same is) in
+        let here : In f (mine s c ++ e ∷ []) = subst (λ (es : List (Entry O R)). In f es) on.own (subst (λ g. In f (mine t g)) same is) in
         ⊎_elim {C = ((d ≡ c) × (f ≡ e)) ⊎ In f (mine s d)}
         (λ (old : In f (mine s c)). inr (subst (λ g. In f (mine s g)) (sym same) old))
         (λ (new : In f (e ∷ [])). ⊎_elim {C = ((d ≡ c) × (f ≡ e)) ⊎ In f (mine s d)} (λ (is_e : f ≡ e). inl (same, is_e)) (λ none. absurd none) new)
         (in-append f (mine s c) (e ∷ []) here))
-        (λ (other : d ≢ c). inr (subst (λ (es : List Entry). In f es) (on.mines d other) is))
+        (λ (other : d ≢ c). inr (subst (λ (es : List (Entry O R)). In f es) (on.mines d other) is))
         (cases_eq d c)
 
-    pub answered_more : (d o : ℕ) (told : Answer) → HasAnswered s d o told → HasAnswered t d o told
+    pub answered_more : (d o : ℕ) (told : Answer R) → HasAnswered s d o told → HasAnswered t d o told
     answered_more d o told has = record { entry = has.entry; drawn = in_more d has.entry has.drawn; object = has.object; answer = has.answer }
 
     pub rival_more : (d o number : ℕ) → HasRival s d o number → HasRival t d o number
@@ -129,7 +129,7 @@ module _ {L : Type 0} (s : Joined L) (c : ℕ) (e : Entry) (abandons : Bool) (tu
           number = is.number;
         })) rival
 
-    answer_more : (d : ℕ) (f : Entry) → IsAnswer s d f → IsAnswer t d f
+    answer_more : (d : ℕ) (f : Entry O R) → IsAnswer s d f → IsAnswer t d f
     answer_more d f old = record {
       there = old.there;
       replied = old.replied;
@@ -139,7 +139,7 @@ module _ {L : Type 0} (s : Joined L) (c : ℕ) (e : Entry) (abandons : Bool) (tu
       last = λ over g number other within listed same answer.
           ⊎_elim
           (λ (new : (g ≡ c) × (other ≡ e)).
-          absurd (on.not_over f number (sym (ap (λ (x : Entry). x.answer) new.1) ∙ answer) (sym (ap (λ (x : Entry). x.object) new.1) ∙ same) over old.over))
+          absurd (on.not_over f number (sym (ap (λ (x : Entry O R). x.answer) new.1) ∙ answer) (sym (ap (λ (x : Entry O R). x.object) new.1) ∙ same) over old.over))
           (λ was. old.last over g number other within was same answer)
           (in_split g other listed);
       busy = old.busy;
@@ -159,35 +159,35 @@ module _ {L : Type 0} (s : Joined L) (c : ℕ) (e : Entry) (abandons : Bool) (tu
         (λ (same : d ≡ c). subst (IsKept t) (sym same)
         (let old = (answered c on.there).kept in
         record {
-          begun = λ o named. ap (λ (k : Kept). k.begun) kept_here ∙ old.begun o named;
-          there = λ o begun. old.there o (sym (ap (λ (k : Kept). k.begun) kept_here) ∙ begun);
-          found = λ answer is. let none : None ≡ Some answer = sym (ap (λ (k : Kept). k.found) kept_here) ∙ is in absurd (cc);
+          begun = λ o named. ap (λ (k : Kept R). k.begun) kept_here ∙ old.begun o named;
+          there = λ o begun. old.there o (sym (ap (λ (k : Kept R). k.begun) kept_here) ∙ begun);
+          found = λ answer is. let none : None ≡ Some answer = sym (ap (λ (k : Kept R). k.found) kept_here) ∙ is in absurd (cc);
         }))
         (λ (other : d ≢ c).
         let old = (answered d within).kept in
         let same = kept_else d other in
         record {
-          begun = λ o named. ap (λ (k : Kept). k.begun) same ∙ old.begun o named;
-          there = λ o begun. old.there o (sym (ap (λ (k : Kept). k.begun) same) ∙ begun);
-          found = λ answer is. old.found answer (sym (ap (λ (k : Kept). k.found) same) ∙ is);
+          begun = λ o named. ap (λ (k : Kept R). k.begun) same ∙ old.begun o named;
+          there = λ o begun. old.there o (sym (ap (λ (k : Kept R). k.begun) same) ∙ begun);
+          found = λ answer is. old.found answer (sym (ap (λ (k : Kept R). k.found) same) ∙ is);
         })
         (cases_eq d c)
 
-    found_more : (d o : ℕ) (answer : Answer) → d < many_callers s → (kept_of t d).begun ≡ Some o → (kept_of t d).found ≡ Some answer → IsFound t d o answer
+    found_more : (d o : ℕ) (answer : Answer R) → d < many_callers s → (kept_of t d).begun ≡ Some o → (kept_of t d).found ≡ Some answer → IsFound t d o answer
     found_more d o answer within begun is =
         ⊎_elim {C = IsFound t d o answer}
         (λ (same : d ≡ c).
-        let none : None ≡ Some answer = sym (ap (λ (k : Kept). k.found) kept_here) ∙ subst (λ g. (kept_of t g).found ≡ Some answer) same is in
+        let none : None ≡ Some answer = sym (ap (λ (k : Kept R). k.found) kept_here) ∙ subst (λ g. (kept_of t g).found ≡ Some answer) same is in
         absurd (cc))
         (λ (other : d ≢ c).
         let same = kept_else d other in
-        let old = (answered d within).found o answer (sym (ap (λ (k : Kept). k.begun) same) ∙ begun) (sym (ap (λ (k : Kept). k.found) same) ∙ is) in
+        let old = (answered d within).found o answer (sym (ap (λ (k : Kept R). k.begun) same) ∙ begun) (sym (ap (λ (k : Kept R). k.found) same) ∙ is) in
         record {
           over = old.over;
           some = old.some;
           busy = old.busy;
           rival = λ number busy. rival_more d o number (old.rival number busy);
-          timely = λ number f busy of. subst (λ (es : List Entry). AreTimely (es ++ f ∷ [])) (sym (on.mines d other)) (old.timely number f busy of);
+          timely = λ number f busy of. subst (λ (es : List (Entry O R)). AreTimely (es ++ f ∷ [])) (sym (on.mines d other)) (old.timely number f busy of);
         })
         (cases_eq d c)
 
@@ -206,9 +206,9 @@ module _ {L : Type 0} (s : Joined L) (c : ℕ) (e : Entry) (abandons : Bool) (tu
               (λ (same : d ≡ c).
               subst (λ g. HasAnswered t g o (Abandoned (incarnation s o + 1))) (sym same)
               (by_abandons o (subst (λ g. named_by (swap_of s g) ≡ Some o) same named) (subst (λ g. is_given_up (swap_of s g) (object s o) o ≡ true) same is)
-              abandons refl (sym (ap (λ (k : Kept). k.abandoned) kept_here) ∙ subst (λ g. (kept_of t g).abandoned ≡ true) same some)))
+              abandons refl (sym (ap (λ (k : Kept R). k.abandoned) kept_here) ∙ subst (λ g. (kept_of t g).abandoned ≡ true) same some)))
               (λ (other : d ≢ c).
-              answered_more d o (Abandoned (incarnation s o + 1)) (old.given_up is (sym (ap (λ (k : Kept). k.abandoned) (kept_else d other)) ∙ some)))
+              answered_more d o (Abandoned (incarnation s o + 1)) (old.given_up is (sym (ap (λ (k : Kept R). k.abandoned) (kept_else d other)) ∙ some)))
               (cases_eq d c);
         }
 

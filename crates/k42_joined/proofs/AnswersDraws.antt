@@ -10,8 +10,6 @@ use Rattle.k42_kinds.specs.declared.entry.Act.TheVariants.{Call}
 use Rattle.k42_kinds.specs.declared.entry.Answer.{Answer}
 use Rattle.k42_kinds.specs.declared.entry.Answer.TheVariants.{Replied, Swapped, Busy, Spent, Gone, Abandoned}
 use Rattle.k42_kinds.specs.declared.entry.Entry.{Entry}
-use Rattle.k42_kinds.specs.declared.operation.Op.{Op}
-use Rattle.k42_kinds.specs.declared.operation.Reply.{Reply}
 use Rattle.phase_core.specs.Objects.{bits_of, BitsFollow}
 use Rattle.phase_core.specs.Plain.{Object}
 use Rattle.phase_core.specs.Sound as phases
@@ -40,13 +38,13 @@ use Rattle.k42_joined.proofs.Timely.{IsLaterFor, IsTimelyLast, timely_push}
 
 -- the callers after one of them drew an entry
 
-pub own_drawn : (callers : List Caller) (c : ℕ) (e : Entry) → c < length callers
+pub own_drawn : {O R : Type 0} (callers : List (Caller O R)) (c : ℕ) (e : Entry O R) → c < length callers
     → drawn_by (set callers c (caller_drawn e (get_or callers c fresh_caller))) c ≡ drawn_by callers c ++ e ∷ []
-own_drawn callers c e there = ap (λ (x : Caller). x.mine) (get_or-set_same callers c _ fresh_caller there)
+own_drawn {O} {R} callers c e there = ap (λ (x : Caller O R). x.mine) (get_or-set_same callers c _ fresh_caller there)
 
-pub else_drawn : (callers : List Caller) (c d : ℕ) (e : Entry) → d ≢ c
+pub else_drawn : {O R : Type 0} (callers : List (Caller O R)) (c d : ℕ) (e : Entry O R) → d ≢ c
     → drawn_by (set callers c (caller_drawn e (get_or callers c fresh_caller))) d ≡ drawn_by callers d
-else_drawn callers c d e other = ap (λ (x : Caller). x.mine) (get_or-set_other callers c d _ fresh_caller other)
+else_drawn {O} {R} callers c d e other = ap (λ (x : Caller O R). x.mine) (get_or-set_other callers c d _ fresh_caller other)
 
 number_most : (k : Object) → swap_number k ≤ k.incarnation + 1
 number_most k = by_complete k.complete where
@@ -54,8 +52,8 @@ number_most k = by_complete k.complete where
   by_complete true = omega arith
   by_complete false = omega arith
 
-module _ {L : Type 0} (s : Joined L) (locked : AreLocked s) (answered : AreAnswered s) (c : ℕ) (there : c < many_callers s) (e : Entry) where
-  each : (f : Entry) → In f (mine s c) → IsAnswer s c f
+module _ {L O R : Type 0} (s : Joined L O R) (locked : AreLocked s) (answered : AreAnswered s) (c : ℕ) (there : c < many_callers s) (e : Entry O R) where
+  each : (f : Entry O R) → In f (mine s c) → IsAnswer s c f
   each f is = (answered c there).each f is
 
   callers_there : c < length s.turns.callers
@@ -67,7 +65,7 @@ module _ {L : Type 0} (s : Joined L) (locked : AreLocked s) (answered : AreAnswe
     busy = λ f m is said own. late f m own ((each f is).busy m said);
     abandoned = λ f m is said own. late f m own ((each f is).abandoned m said);
   } where
-    late : (f : Entry) (m : ℕ) → IsOwn f e → m ≤ swap_number (object s f.object) → m ≤ e.incarnation + 1
+    late : (f : Entry O R) (m : ℕ) → IsOwn f e → m ≤ swap_number (object s f.object) → m ≤ e.incarnation + 1
     late f m own le =
         let le' : m ≤ swap_number (object s e.object) = subst (λ o. m ≤ swap_number (object s o)) (sym own.object) le in
         let most = number_most (object s e.object) in
@@ -80,7 +78,7 @@ module _ {L : Type 0} (s : Joined L) (locked : AreLocked s) (answered : AreAnswe
       timely_push (mine s c) e (answered c there).timely (late_now now) (λ n is. absurd (no_busy n is)) (λ n is. absurd (no_abandoned n is))
 
   -- an entry that hands no row on
-  module _ (abandons : Bool) (t : Turns) (own : drawn_by t.callers c ≡ mine s c ++ e ∷ []) (mines : (d : ℕ) → d ≢ c → drawn_by t.callers d ≡ mine s d)
+  module _ (abandons : Bool) (t : Turns O R) (own : drawn_by t.callers c ≡ mine s c ++ e ∷ []) (mines : (d : ℕ) → d ≢ c → drawn_by t.callers d ≡ mine s d)
       (not_done : (n : ℕ) → e.answer ≡ Swapped n → ⊥)
       (given_up : (o : ℕ) → named_by (swap_of s c) ≡ Some o → is_given_up (swap_of s c) (object s o) o ≡ true → abandons ≡ true
       → HasAnswered (record s { turns = t; kept = kept_drawn s c abandons }) c o (Abandoned (incarnation s o + 1)))
@@ -102,7 +100,7 @@ module _ {L : Type 0} (s : Joined L) (locked : AreLocked s) (answered : AreAnswe
 
   -- a call
 
-  pub call_answers : (cells : List ℕ) (op : Op) (reply : Reply) → e.act ≡ Call op → e.answer ≡ Replied reply → e.object < many_objects s
+  pub call_answers : (cells : List ℕ) (op : O) (reply : R) → e.act ≡ Call op → e.answer ≡ Replied reply → e.object < many_objects s
       → e.incarnation ≡ incarnation s e.object
       → AreAnswered (record s { turns = turn_events.effect s.turns (Draw c cells e); kept = kept_drawn s c false })
   call_answers cells op reply act answer named now =
@@ -114,7 +112,7 @@ module _ {L : Type 0} (s : Joined L) (locked : AreLocked s) (answered : AreAnswe
         known = let same = now in omega (arith, same);
         done = λ n is. absurd (replied_not_swapped n (sym answer ∙ is));
         over = subst (λ a. IsTrueOf (object s e.object) e.incarnation a) (sym answer) tt;
-        last = λ over d n other within listed same is. let bad : tells_over (Replied reply) ≡ true = subst (λ a. tells_over a ≡ true) answer over in absurd (cc);
+        last = λ over d n other within listed same is. let bad : tells_over {R = R} (Replied reply) ≡ true = subst (λ a. tells_over a ≡ true) answer over in absurd (cc);
         busy = λ n is. absurd (replied_not_busy n (sym answer ∙ is));
         abandoned = λ n is. absurd (replied_not_abandoned n (sym answer ∙ is));
         rival = λ n is. absurd (replied_not_busy n (sym answer ∙ is));
@@ -129,10 +127,10 @@ module _ {L : Type 0} (s : Joined L) (locked : AreLocked s) (answered : AreAnswe
       replied_not_abandoned : (n : ℕ) → Replied reply ≡ Abandoned n → ⊥
       replied_not_abandoned n is = cc
 
-      drawing : Turns
+      drawing : Turns O R
       drawing = change_caller (caller_drawn e) s.turns c
 
-      t : Turns
+      t : Turns O R
       t = turn_events.effect s.turns (Draw c cells e)
 
       own : drawn_by t.callers c ≡ mine s c ++ e ∷ []
@@ -143,18 +141,18 @@ module _ {L : Type 0} (s : Joined L) (locked : AreLocked s) (answered : AreAnswe
 
   -- a mark
 
-  over_not_swapped : (answer : Answer) (n : ℕ) → tells_over answer ≡ true → answer ≡ Swapped n → ⊥
-  over_not_swapped answer n over is = let bad : tells_over (Swapped n) ≡ true = subst (λ a. tells_over a ≡ true) is over in cc
+  over_not_swapped : (answer : Answer R) (n : ℕ) → tells_over answer ≡ true → answer ≡ Swapped n → ⊥
+  over_not_swapped answer n over is = let bad : tells_over {R = R} (Swapped n) ≡ true = subst (λ a. tells_over a ≡ true) is over in cc
 
-  over_not_busy : (answer : Answer) (n : ℕ) → tells_over answer ≡ true → answer ≡ Busy n → ⊥
-  over_not_busy answer n over is = let bad : tells_over (Busy n) ≡ true = subst (λ a. tells_over a ≡ true) is over in cc
+  over_not_busy : (answer : Answer R) (n : ℕ) → tells_over answer ≡ true → answer ≡ Busy n → ⊥
+  over_not_busy answer n over is = let bad : tells_over {R = R} (Busy n) ≡ true = subst (λ a. tells_over a ≡ true) is over in cc
 
-  over_not_abandoned : (answer : Answer) (n : ℕ) → tells_over answer ≡ true → answer ≡ Abandoned n → ⊥
-  over_not_abandoned answer n over is = let bad : tells_over (Abandoned n) ≡ true = subst (λ a. tells_over a ≡ true) is over in cc
+  over_not_abandoned : (answer : Answer R) (n : ℕ) → tells_over answer ≡ true → answer ≡ Abandoned n → ⊥
+  over_not_abandoned answer n over is = let bad : tells_over {R = R} (Abandoned n) ≡ true = subst (λ a. tells_over a ≡ true) is over in cc
 
   pub mark_answers : (cells : List ℕ) → is_call e.act ≡ false → tells_over e.answer ≡ true → (kept_of s c).begun ≡ Some e.object
       → (kept_of s c).found ≡ Some e.answer → e.incarnation ≡ incarnation s e.object
-      → ((d n : ℕ) (other : Entry) → d < many_callers s → In other (mine s d) → other.object ≡ e.object → other.answer ≡ Swapped n → other.stamp < e.stamp)
+      → ((d n : ℕ) (other : Entry O R) → d < many_callers s → In other (mine s d) → other.object ≡ e.object → other.answer ≡ Swapped n → other.stamp < e.stamp)
       → AreAnswered (record s { turns = turn_events.effect s.turns (Draw c cells e); kept = kept_drawn s c false })
   mark_answers cells no_call over begun found now last =
       entry_keeps false t own mines (λ n is. over_not_swapped e.answer n over is) (λ o name is bad. absurd (cc))
@@ -166,18 +164,18 @@ module _ {L : Type 0} (s : Joined L) (locked : AreLocked s) (answered : AreAnswe
         done = λ n is. absurd (over_not_swapped e.answer n over is);
         over = subst (λ i. IsTrueOf (object s e.object) i e.answer) (sym now) ((answered c there).found e.object e.answer begun found).over;
         last = λ is_over d n other within listed same is. ⊎_elim
-            (λ (here : d ≡ c). by_own n other same is (subst (λ (es : List Entry). In other es) own (subst (λ g. In other (drawn_by t.callers g)) here listed)))
-            (λ (else : d ≢ c). last d n other within (subst (λ (es : List Entry). In other es) (mines d else) listed) same is)
+            (λ (here : d ≡ c). by_own n other same is (subst (λ (es : List (Entry O R)). In other es) own (subst (λ g. In other (drawn_by t.callers g)) here listed)))
+            (λ (else : d ≢ c). last d n other within (subst (λ (es : List (Entry O R)). In other es) (mines d else) listed) same is)
             (cases_eq d c);
         busy = λ n is. absurd (over_not_busy e.answer n over is);
         abandoned = λ n is. absurd (over_not_abandoned e.answer n over is);
         rival = λ n is. absurd (over_not_busy e.answer n over is);
       })
     where
-      drawing : Turns
+      drawing : Turns O R
       drawing = change_caller (caller_drawn e) s.turns c
 
-      t : Turns
+      t : Turns O R
       t = turn_events.effect s.turns (Draw c cells e)
 
       own : drawn_by t.callers c ≡ mine s c ++ e ∷ []
@@ -186,15 +184,15 @@ module _ {L : Type 0} (s : Joined L) (locked : AreLocked s) (answered : AreAnswe
       mines : (d : ℕ) → d ≢ c → drawn_by t.callers d ≡ mine s d
       mines d other = ap (λ callers. drawn_by callers d) (callers-change_cells (cell_told e) drawing cells) ∙ else_drawn s.turns.callers c d e other
 
-      by_own : (n : ℕ) (other : Entry) → other.object ≡ e.object → other.answer ≡ Swapped n → In other (mine s c ++ e ∷ []) → other.stamp < e.stamp
+      by_own : (n : ℕ) (other : Entry O R) → other.object ≡ e.object → other.answer ≡ Swapped n → In other (mine s c ++ e ∷ []) → other.stamp < e.stamp
       by_own n other same is listed =
           ⊎_elim (λ old. last c n other there old same is)
-          (λ new. ⊎_elim (λ (same_e : other ≡ e). absurd (over_not_swapped e.answer n over (sym (ap (λ (x : Entry). x.answer) same_e) ∙ is))) (λ none. absurd none) new)
+          (λ new. ⊎_elim (λ (same_e : other ≡ e). absurd (over_not_swapped e.answer n over (sym (ap (λ (x : Entry O R). x.answer) same_e) ∙ is))) (λ none. absurd none) new)
           (in-append other (mine s c) (e ∷ []) listed)
 
   -- a refusal, and a swap that is given up
 
-  alone_own : (e' : Entry) → drawn_by (turn_events.effect s.turns (Alone c e')).callers c ≡ mine s c ++ e' ∷ []
+  alone_own : (e' : Entry O R) → drawn_by (turn_events.effect s.turns (Alone c e')).callers c ≡ mine s c ++ e' ∷ []
   alone_own e' = own_drawn s.turns.callers c e' callers_there
 
   module _ (no_call : is_call e.act ≡ false) (begun : (kept_of s c).begun ≡ Some e.object) where
@@ -210,14 +208,14 @@ module _ {L : Type 0} (s : Joined L) (locked : AreLocked s) (answered : AreAnswe
           known = let low = found.busy number refl in let most = number_most (object s e.object) in let before = refused.before in omega (arith, low, most, before);
           done = λ n is. let bad : Busy number ≡ Swapped n = sym answer ∙ is in absurd (cc);
           over = subst (λ a. IsTrueOf (object s e.object) e.incarnation a) (sym answer) tt;
-          last = λ over d n other within listed same is. let bad : tells_over (Busy number) ≡ true = subst (λ a. tells_over a ≡ true) answer over in absurd (cc);
+          last = λ over d n other within listed same is. let bad : tells_over {R = R} (Busy number) ≡ true = subst (λ a. tells_over a ≡ true) answer over in absurd (cc);
           busy = λ n is. let same : number ≡ n = busy_same (sym answer ∙ is) in subst (λ m. m ≤ swap_number (object s e.object)) same (found.busy number refl);
           abandoned = λ n is. let bad : Busy number ≡ Abandoned n = sym answer ∙ is in absurd (cc);
           rival = λ n is. let same : number ≡ n = busy_same (sym answer ∙ is) in
               subst (HasRival (record s { turns = turn_events.effect s.turns (Alone c e); kept = kept_drawn s c false }) c e.object) same (rival_on (found.rival number refl));
         })
       where
-        busy_same : {m n : ℕ} → Busy m ≡ Busy n → m ≡ n
+        busy_same : {m n : ℕ} → ◌≡◌ {A = Answer R} (Busy m) (Busy n) → m ≡ n
         busy_same same = cc
 
         found : IsFound s c e.object (Busy number)
@@ -269,7 +267,7 @@ module _ {L : Type 0} (s : Joined L) (locked : AreLocked s) (answered : AreAnswe
           known = let present = is_abandoned.present in omega (arith, present);
           done = λ n is. let bad : Abandoned number ≡ Swapped n = sym answer ∙ is in absurd (cc);
           over = subst (λ a. IsTrueOf (object s e.object) e.incarnation a) (sym answer) tt;
-          last = λ over d n other within listed same is. let bad : tells_over (Abandoned number) ≡ true = subst (λ a. tells_over a ≡ true) answer over in absurd (cc);
+          last = λ over d n other within listed same is. let bad : tells_over {R = R} (Abandoned number) ≡ true = subst (λ a. tells_over a ≡ true) answer over in absurd (cc);
           busy = λ n is. let bad : Abandoned number ≡ Busy n = sym answer ∙ is in absurd (cc);
           abandoned = λ n is.
               let same : number ≡ n = abandoned_same (sym answer ∙ is) in
@@ -279,17 +277,17 @@ module _ {L : Type 0} (s : Joined L) (locked : AreLocked s) (answered : AreAnswe
           rival = λ n is. let bad : Abandoned number ≡ Busy n = sym answer ∙ is in absurd (cc);
         })
       where
-        t : Turns
+        t : Turns O R
         t = turn_events.effect s.turns (Alone c e)
 
-        abandoned_same : {m n : ℕ} → Abandoned m ≡ Abandoned n → m ≡ n
+        abandoned_same : {m n : ℕ} → ◌≡◌ {A = Answer R} (Abandoned m) (Abandoned n) → m ≡ n
         abandoned_same same = cc
 
-        carried : (a : Answer) → ((j : ℕ) → a ≡ Swapped j → j ≤ number) → number_carried_out a ≤ number
+        carried : (a : Answer R) → ((j : ℕ) → a ≡ Swapped j → j ≤ number) → number_carried_out a ≤ number
         carried (Swapped j) low = low j refl
         carried a low = omega arith
 
-        not_past : (f : Entry) → In f (mine s c) → IsOwn e f → IsNotPast number f
+        not_past : (f : Entry O R) → In f (mine s c) → IsOwn e f → IsNotPast number f
         not_past f listed own =
             let next = is_abandoned.next in
             let known : f.incarnation ≤ incarnation s e.object = subst (λ o. f.incarnation ≤ incarnation s o) own.object (each f listed).known in
@@ -303,7 +301,7 @@ module _ {L : Type 0} (s : Joined L) (locked : AreLocked s) (answered : AreAnswe
                   ((each f listed).done j said));
             }
 
-  alone_by : (answer : Answer) → e.answer ≡ answer → phases.IsSound s.phases → e.caller ≡ c → is_call e.act ≡ false → (kept_of s c).begun ≡ Some e.object
+  alone_by : (answer : Answer R) → e.answer ≡ answer → phases.IsSound s.phases → e.caller ≡ c → is_call e.act ≡ false → (kept_of s c).begun ≡ Some e.object
       → IsAnsweredAlone s c e answer
       → AreAnswered (record s { turns = turn_events.effect s.turns (Alone c e); kept = kept_drawn s c (tells_abandoned answer) })
   alone_by (Busy number) is sound caller no_call begun refused = busy_answers no_call begun number caller is refused
@@ -340,20 +338,20 @@ module _ {L : Type 0} (s : Joined L) (locked : AreLocked s) (answered : AreAnswe
           done = λ n is. let same : incarnation s e.object + 1 ≡ n = swapped_same (sym answer ∙ is) in inr (sym same, moved);
           over = subst (λ a. IsTrueOf (object s e.object) e.incarnation a) (sym answer) tt;
           last = λ over d n other within listed same is.
-              let bad : tells_over (Swapped (incarnation s e.object + 1)) ≡ true = subst (λ a. tells_over a ≡ true) answer over in absurd (cc);
+              let bad : tells_over {R = R} (Swapped (incarnation s e.object + 1)) ≡ true = subst (λ a. tells_over a ≡ true) answer over in absurd (cc);
           busy = λ n is. let bad : Swapped (incarnation s e.object + 1) ≡ Busy n = sym answer ∙ is in absurd (cc);
           abandoned = λ n is. let bad : Swapped (incarnation s e.object + 1) ≡ Abandoned n = sym answer ∙ is in absurd (cc);
           rival = λ n is. let bad : Swapped (incarnation s e.object + 1) ≡ Busy n = sym answer ∙ is in absurd (cc);
         };
       })
     where
-      swapped_same : {m n : ℕ} → Swapped m ≡ Swapped n → m ≡ n
+      swapped_same : {m n : ℕ} → ◌≡◌ {A = Answer R} (Swapped m) (Swapped n) → m ≡ n
       swapped_same same = cc
 
-      drawing : Turns
+      drawing : Turns O R
       drawing = change_caller (caller_drawn e) s.turns c
 
-      t : Turns
+      t : Turns O R
       t = turn_events.effect s.turns (Hand c from onto e)
 
       h : List (List L)
@@ -385,7 +383,7 @@ module _ {L : Type 0} (s : Joined L) (locked : AreLocked s) (answered : AreAnswe
           (((answered d within).drawn o (ap named_by moves)).handed moves (sym (ap (λ ls. ltb (incarnation s o) (length ls)) hands_same) ∙ is)))
           (cases_eq o e.object)
 
-      alive : (f : Entry) → e.object ≡ f.object → (a : Answer) → tells_over a ≡ true → IsTrueOf (object s f.object) f.incarnation a → ⊥
+      alive : (f : Entry O R) → e.object ≡ f.object → (a : Answer R) → tells_over a ≡ true → IsTrueOf (object s f.object) f.incarnation a → ⊥
       alive f same Spent over is =
           let ready = moved_is_ready s.phases sound c e.object there moved in
           let next = ready.next in

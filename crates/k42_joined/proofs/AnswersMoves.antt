@@ -42,13 +42,13 @@ from_is_blocking (Blocking q) is = refl
 from_is_blocking swap is = absurd (cc)
 
 -- a swap that is neither idle nor refused has nothing kept
-pub nothing_found : {L : Type 0} (s : Joined L) (c : ℕ) (swap : SwapAt) (answer : Answer) → IsKept s c → swap_of s c ≡ swap
+pub nothing_found : {L O R : Type 0} (s : Joined L O R) (c : ℕ) (swap : SwapAt) (answer : Answer R) → IsKept s c → swap_of s c ≡ swap
     → is_idle swap || is_refused swap ≡ false → (kept_of s c).found ≡ Some answer → ⊥
 nothing_found s c swap answer kept at neither found =
     let is : is_idle swap || is_refused swap ≡ true = subst (λ w. is_idle w || is_refused w ≡ true) at (kept.found answer found) in
     absurd (cc)
 
-module _ {S L P : Type 0} (F : Layouts S L P) (laws : AreLaws F) (declared : List L) (s : Joined L)
+module _ {S L P O R : Type 0} (F : Layouts S L P O R) (laws : AreLaws F) (declared : List L) (s : Joined L O R)
     (sound : phases.IsSound s.phases) (turns_sound : turns.IsSound s.turns) (locked : AreLocked s) (rows : Fitting F declared s)
     (answered : AreAnswered s) (c : ℕ) (there : c < many_callers s) where
   abbrev q : ℕ
@@ -74,7 +74,7 @@ module _ {S L P : Type 0} (F : Layouts S L P) (laws : AreLaws F) (declared : Lis
     blocked_names : named_by (swap_of s c) ≡ Some q
     blocked_names = ap named_by at
 
-    abbrev m : Joined L
+    abbrev m : Joined L O R
     m = record s { phases = staged s.phases c q (Moved q) (record k { moving = true }); kept = s.kept }
 
     m_word : IsSameWord k (record k { moving = true })
@@ -141,7 +141,7 @@ module _ {S L P : Type 0} (F : Layouts S L P) (laws : AreLaws F) (declared : Lis
     -- it is turned over
 
     module _ (tag : ℕ) (may : MayAtPhases F declared s (TurnOver c tag)) where
-      abbrev u : Joined L
+      abbrev u : Joined L O R
       u = record s { phases = staged s.phases c q (Opening q 0) (turned_over k tag); kept = s.kept }
 
       u_swap : swap_of u c ≡ Opening q 0
@@ -202,10 +202,10 @@ module _ {S L P : Type 0} (F : Layouts S L P) (laws : AreLaws F) (declared : Lis
     -- it is given up
 
     module _ (may : MayAtPhases F declared s (Unblock c)) where
-      abbrev kept : List Kept
+      abbrev kept : List (Kept R)
       kept = keep s c (record (kept_of s c) { abandoned = false })
 
-      abbrev v : Joined L
+      abbrev v : Joined L O R
       v = record s { phases = staged s.phases c q (Reopening q 0) (unblocked k); kept = kept }
 
       v_swap : swap_of v c ≡ Reopening q 0
@@ -242,16 +242,16 @@ module _ {S L P : Type 0} (F : Layouts S L P) (laws : AreLaws F) (declared : Lis
       unblock_keeps =
           own_keeps s v sound answered c there v_moves
           (record {
-            begun = λ o named. ap (λ (x : Kept). x.begun) v_kept ∙ (answered c there).kept.begun o (moved_names ∙ sym (ap named_by v_swap) ∙ named);
+            begun = λ o named. ap (λ (x : Kept R). x.begun) v_kept ∙ (answered c there).kept.begun o (moved_names ∙ sym (ap named_by v_swap) ∙ named);
             there = λ o begun.
-                rw (many_objects_same s c there q (Reopening q 0) (unblocked k) kept) ((answered c there).kept.there o (sym (ap (λ (x : Kept). x.begun) v_kept) ∙ begun));
-            found = λ answer is. absurd (nothing_found s c (Moved q) answer (answered c there).kept at refl (sym (ap (λ (x : Kept). x.found) v_kept) ∙ is));
+                rw (many_objects_same s c there q (Reopening q 0) (unblocked k) kept) ((answered c there).kept.there o (sym (ap (λ (x : Kept R). x.begun) v_kept) ∙ begun));
+            found = λ answer is. absurd (nothing_found s c (Moved q) answer (answered c there).kept at refl (sym (ap (λ (x : Kept R). x.found) v_kept) ∙ is));
           })
-          (λ o answer begun is. absurd (nothing_found s c (Moved q) answer (answered c there).kept at refl (sym (ap (λ (x : Kept). x.found) v_kept) ∙ is)))
+          (λ o answer begun is. absurd (nothing_found s c (Moved q) answer (answered c there).kept at refl (sym (ap (λ (x : Kept R). x.found) v_kept) ∙ is)))
           (λ o named. record {
             handed = λ moved handed. let bad : Reopening q 0 ≡ Moved o = sym v_swap ∙ moved in absurd (cc);
             turned = λ is. let bad : is_turned (Reopening q 0) (object v o) ≡ true = subst (λ w. is_turned w (object v o) ≡ true) v_swap is in absurd (cc);
-            given_up = λ is abandons. let bad : false ≡ true = sym (ap (λ (x : Kept). x.abandoned) v_kept) ∙ abandons in absurd (cc);
+            given_up = λ is abandons. let bad : false ≡ true = sym (ap (λ (x : Kept R). x.abandoned) v_kept) ∙ abandons in absurd (cc);
           })
 
   pub turn_over_answers : (tag : ℕ) → MayAtPhases F declared s (TurnOver c tag) → AreAnswered (effect s (AtPhases (TurnOver c tag)))

@@ -33,7 +33,7 @@ use Rattle.k42_joined.proofs.AnswersStaged.{swap_here, object_here, many_objects
 use Rattle.k42_joined.proofs.AnswersSteps.{WordGoesOn, answered_on, found_on}
 use Rattle.k42_joined.proofs.AnswersWords.{IsSameWord, same_number}
 
-module _ {L : Type 0} (s : Joined L) (sound : phases.IsSound s.phases) (answered : AreAnswered s) (c : ℕ) (there : c < many_callers s) where
+module _ {L O R : Type 0} (s : Joined L O R) (sound : phases.IsSound s.phases) (answered : AreAnswered s) (c : ℕ) (there : c < many_callers s) where
   own_there : (q : ℕ) → named_by (swap_of s c) ≡ Some q → q < many_objects s
   own_there q named = (answered c there).kept.there q ((answered c there).kept.begun q named)
 
@@ -54,7 +54,7 @@ module _ {L : Type 0} (s : Joined L) (sound : phases.IsSound s.phases) (answered
     abbrev k : Object
     k = put_entry (object s q) p (empty_entry (object s q).incarnation)
 
-    abbrev t : Joined L
+    abbrev t : Joined L O R
     t = record s { phases = staged s.phases c q next k }
 
     t_swap : swap_of t c ≡ next
@@ -92,7 +92,7 @@ module _ {L : Type 0} (s : Joined L) (sound : phases.IsSound s.phases) (answered
         (λ o name.
         let same : q ≡ o = same_Some q o (sym named' ∙ sym (ap named_by t_swap) ∙ name) in
         let old = (answered c there).drawn q names in
-        let on : (told : Answer) → HasAnswered s c q told → HasAnswered t c q told = λ told. answered_on s t (steps s t sound answered c there t_moves) c q told in
+        let on : (told : Answer R) → HasAnswered s c q told → HasAnswered t c q told = λ told. answered_on s t (steps s t sound answered c there t_moves) c q told in
         let inc = (t_words q).incarnation in
         subst (λ r. HasDrawn t c r) same
         (record {
@@ -142,11 +142,11 @@ module _ {L : Type 0} (s : Joined L) (sound : phases.IsSound s.phases) (answered
   -- the swap ends
 
   module _ (q : ℕ) (names : named_by (swap_of s c) ≡ Some q) (unmoved : (o : ℕ) → swap_of s c ≡ Moved o → ⊥)
-      (settled : is_refused (swap_of s c) ≡ false → (answer : Answer) × HasAnswered s c q answer × Settles (swap_number (object s q)) answer) where
+      (settled : is_refused (swap_of s c) ≡ false → (answer : Answer R) × HasAnswered s c q answer × Settles (swap_number (object s q)) answer) where
     abbrev k' : Object
     k' = cleared (object s q)
 
-    abbrev u : Joined L
+    abbrev u : Joined L O R
     u = record s { phases = staged s.phases c q Idle k' }
 
     u_swap : swap_of u c ≡ Idle
@@ -205,7 +205,7 @@ module _ {L : Type 0} (s : Joined L) (sound : phases.IsSound s.phases) (answered
       old = (answered c there).drawn q (ap named_by at)
 
       by_complete : (b : Bool) → (object s q).complete ≡ b → b || (kept_of s c).abandoned ≡ true
-          → (answer : Answer) × HasAnswered s c q answer × Settles (swap_number (object s q)) answer
+          → (answer : Answer R) × HasAnswered s c q answer × Settles (swap_number (object s q)) answer
       by_complete true e may = (
         Swapped (incarnation s q),
         old.turned (subst (λ w. is_turned w (object s q) ≡ true) (sym at) e),
@@ -218,5 +218,5 @@ module _ {L : Type 0} (s : Joined L) (sound : phases.IsSound s.phases) (answered
       )
   clear_by swap at is may = absurd (cc)
 
-  pub clear_answers : {S P : Type 0} (F : Layouts S L P) (declared : List L) → MayAtPhases F declared s (Clear c) → AreAnswered (effect s (AtPhases (Clear c)))
+  pub clear_answers : {S P : Type 0} (F : Layouts S L P O R) (declared : List L) → MayAtPhases F declared s (Clear c) → AreAnswered (effect s (AtPhases (Clear c)))
   clear_answers F declared may = clear_by (swap_of s c) refl may.core may.beside

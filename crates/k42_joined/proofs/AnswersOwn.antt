@@ -19,7 +19,7 @@ use Rattle.k42_joined.proofs.AnswersWords.{IsSameWord, same_number, IsAlike, ali
 use Rattle.k42_joined.proofs.AnswersQuiet.{under_way_on, reached_on, drawn_alike}
 
 -- what the step leaves, and what becomes of its own caller's swap
-pub record MovesOn {L : Type 0} (s t : Joined L) (c : ℕ) : Type 0 where
+pub record MovesOn {L O R : Type 0} (s t : Joined L O R) (c : ℕ) : Type 0 where
   pub callers : many_callers t ≡ many_callers s
   pub objects : many_objects t ≡ many_objects s
   pub mines : (d : ℕ) → mine t d ≡ mine s d
@@ -29,13 +29,13 @@ pub record MovesOn {L : Type 0} (s t : Joined L) (c : ℕ) : Type 0 where
   pub words : (o : ℕ) → WordGoesOn (object s o) (object t o)
   pub word_else : (o : ℕ) → (named_by (swap_of s c) ≡ Some o → ⊥) → IsSameWord (object s o) (object t o)
   pub reached :
-      (number : ℕ) (e : Entry) → In e (mine s c) → e.answer ≡ Swapped number → number ≡ incarnation s e.object + 1
+      (number : ℕ) (e : Entry O R) → In e (mine s c) → e.answer ≡ Swapped number → number ≡ incarnation s e.object + 1
       → swap_of s c ≡ Moved e.object → IsKnownNumber t c e.object number
   pub rival :
       (d o number : ℕ) → c ≢ d → named_by (swap_of s c) ≡ Some o → is_refused (swap_of s c) ≡ false
       → number ≡ swap_number (object s o) → HasRival t d o number
 
-module _ {L : Type 0} (s t : Joined L) (sound : phases.IsSound s.phases) (answered : AreAnswered s) (c : ℕ) (there : c < many_callers s)
+module _ {L O R : Type 0} (s t : Joined L O R) (sound : phases.IsSound s.phases) (answered : AreAnswered s) (c : ℕ) (there : c < many_callers s)
     (moves : MovesOn s t c) where
   -- the object of another caller's swap is not that of this one
   other_named : (d o : ℕ) → d < many_callers s → d ≢ c → named_by (swap_of s d) ≡ Some o → named_by (swap_of s c) ≡ Some o → ⊥
@@ -46,7 +46,7 @@ module _ {L : Type 0} (s t : Joined L) (sound : phases.IsSound s.phases) (answer
   named_moved : (swap : SwapAt) (o : ℕ) → swap ≡ Moved o → named_by swap ≡ Some o
   named_moved swap o is = ap named_by is
 
-  reached_all : (d number : ℕ) (e : Entry) → d < many_callers s → In e (mine s d) → e.answer ≡ Swapped number
+  reached_all : (d number : ℕ) (e : Entry O R) → d < many_callers s → In e (mine s d) → e.answer ≡ Swapped number
       → IsKnownNumber s d e.object number → IsKnownNumber t d e.object number
   reached_all d number e within is answer reached =
       ⊎_elim {C = IsKnownNumber t d e.object number}
@@ -92,9 +92,9 @@ module _ {L : Type 0} (s t : Joined L) (sound : phases.IsSound s.phases) (answer
       let old = (answered d within).kept in
       let same = moves.kepts d other in
       record {
-        begun = λ o named. ap (λ (k : Kept). k.begun) same ∙ old.begun o (sym (ap named_by (moves.swaps d other)) ∙ named);
-        there = λ o begun. rw moves.objects (old.there o (sym (ap (λ (k : Kept). k.begun) same) ∙ begun));
-        found = λ answer is. ap idle_or (moves.swaps d other) ∙ old.found answer (sym (ap (λ (k : Kept). k.found) same) ∙ is);
+        begun = λ o named. ap (λ (k : Kept R). k.begun) same ∙ old.begun o (sym (ap named_by (moves.swaps d other)) ∙ named);
+        there = λ o begun. rw moves.objects (old.there o (sym (ap (λ (k : Kept R). k.begun) same) ∙ begun));
+        found = λ answer is. ap idle_or (moves.swaps d other) ∙ old.found answer (sym (ap (λ (k : Kept R). k.found) same) ∙ is);
       }
     where
       idle_or : SwapAt → Bool
@@ -109,7 +109,7 @@ module _ {L : Type 0} (s t : Joined L) (sound : phases.IsSound s.phases) (answer
 
   -- with what is shown of the own caller
   pub own_keeps : IsKept t c
-      → ((o : ℕ) (answer : Answer) → (kept_of t c).begun ≡ Some o → (kept_of t c).found ≡ Some answer → IsFound t c o answer)
+      → ((o : ℕ) (answer : Answer R) → (kept_of t c).begun ≡ Some o → (kept_of t c).found ≡ Some answer → IsFound t c o answer)
       → ((o : ℕ) → named_by (swap_of t c) ≡ Some o → HasDrawn t c o) → AreAnswered t
   own_keeps kept found drawn =
       answered_after s t steps answered
@@ -118,7 +118,7 @@ module _ {L : Type 0} (s t : Joined L) (sound : phases.IsSound s.phases) (answer
       (λ (same : d ≡ c). subst (λ f. IsFound t f o answer) (sym same)
       (found o answer (subst (λ f. (kept_of t f).begun ≡ Some o) same begun) (subst (λ f. (kept_of t f).found ≡ Some answer) same is)))
       (λ other. found_on s t steps d o answer
-      ((answered d within).found o answer (sym (ap (λ (k : Kept). k.begun) (moves.kepts d other)) ∙ begun) (sym (ap (λ (k : Kept). k.found) (moves.kepts d other)) ∙ is)))
+      ((answered d within).found o answer (sym (ap (λ (k : Kept R). k.begun) (moves.kepts d other)) ∙ begun) (sym (ap (λ (k : Kept R). k.found) (moves.kepts d other)) ∙ is)))
       (cases_eq d c))
       (λ d o within named. ⊎_elim {C = HasDrawn t d o}
       (λ (same : d ≡ c). subst (λ f. HasDrawn t f o) (sym same) (drawn o (subst (λ f. named_by (swap_of t f) ≡ Some o) same named)))

@@ -18,7 +18,7 @@ use Rattle.k42_joined.proofs.AnswersMoves.{move_answers, turn_over_answers, unbl
 use Rattle.k42_joined.proofs.AnswersOpens.{open_answers, clear_answers}
 use Rattle.k42_joined.proofs.AnswersQuiet.{quiet_keeps}
 
-module _ {S L P : Type 0} (F : Layouts S L P) (laws : AreLaws F) (declared : List L) (s : Joined L)
+module _ {S L P O R : Type 0} (F : Layouts S L P O R) (laws : AreLaws F) (declared : List L) (s : Joined L O R)
     (sound : phases.IsSound s.phases) (turns_sound : turns.IsSound s.turns) (locked : AreLocked s) (rows : Fitting F declared s)
     (answered : AreAnswered s) where
   pub phases_keep_answers : (event : Event) → caller_of event < many_callers s → MayAtPhases F declared s event

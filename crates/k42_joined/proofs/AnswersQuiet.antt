@@ -35,7 +35,7 @@ given_up_by (Opened q) k l o same = ap (λ b. (eqb q o) && not b) (sym same)
 given_up_by swap k l o same = refl
 
 -- what a swap under way goes on as
-pub under_way_on : {L : Type 0} (s t : Joined L) (d o number : ℕ) → many_callers t ≡ many_callers s
+pub under_way_on : {L O R : Type 0} (s t : Joined L O R) (d o number : ℕ) → many_callers t ≡ many_callers s
     → (is : IsUnderWay s d o number) → named_by (swap_of t is.rival) ≡ named_by (swap_of s is.rival)
     → is_refused (swap_of t is.rival) ≡ is_refused (swap_of s is.rival) → swap_number (object t o) ≡ swap_number (object s o)
     → IsUnderWay t d o number
@@ -49,7 +49,7 @@ under_way_on s t d o number callers is named refused same = record {
 }
 
 -- a number that was reached stays so, where the incarnation and the stage stay
-pub reached_on : {L : Type 0} (s t : Joined L) (d o number : ℕ) → incarnation t o ≡ incarnation s o
+pub reached_on : {L O R : Type 0} (s t : Joined L O R) (d o number : ℕ) → incarnation t o ≡ incarnation s o
     → (swap_of s d ≡ Moved o → swap_of t d ≡ Moved o) → IsKnownNumber s d o number → IsKnownNumber t d o number
 reached_on s t d o number same moved is =
     ⊎_elim {C = IsKnownNumber t d o number} (λ low. inl (omega (arith, low, same)))
@@ -57,10 +57,10 @@ reached_on s t d o number same moved is =
     let next = ahead.0 in inr (omega (arith, next, same), moved ahead.1)) is
 
 -- what a swap has drawn stays, where its stage, what is kept of it and the word of its object stay
-pub drawn_alike : {L : Type 0} (s t : Joined L) (d o : ℕ) → IsAlike (swap_of s d) (swap_of t d) → kept_of t d ≡ kept_of s d
-    → IsSameWord (object s o) (object t o) → many_hands t o ≡ many_hands s o → ((told : Answer) → HasAnswered s d o told → HasAnswered t d o told)
+pub drawn_alike : {L O R : Type 0} (s t : Joined L O R) (d o : ℕ) → IsAlike (swap_of s d) (swap_of t d) → kept_of t d ≡ kept_of s d
+    → IsSameWord (object s o) (object t o) → many_hands t o ≡ many_hands s o → ((told : Answer R) → HasAnswered s d o told → HasAnswered t d o told)
     → HasDrawn s d o → HasDrawn t d o
-drawn_alike s t d o same kept word hands on old = record {
+drawn_alike {R} s t d o same kept word hands on old = record {
   handed = λ moved is.
       subst (λ i. HasAnswered t d o (Swapped (i + 1))) (sym word.incarnation)
       (on (Swapped (incarnation s o + 1)) (old.handed (same.was_moved o moved)
@@ -71,22 +71,22 @@ drawn_alike s t d o same kept word hands on old = record {
   given_up = λ is abandons.
       subst (λ i. HasAnswered t d o (Abandoned (i + 1))) (sym word.incarnation)
       (on (Abandoned (incarnation s o + 1)) (old.given_up (sym (same.given_up (object s o) o) ∙ given_up_by (swap_of t d) (object s o) (object t o) o word.complete ∙ is)
-      (sym (ap (λ (k : Kept). k.abandoned) kept) ∙ abandons)));
+      (sym (ap (λ (k : Kept R). k.abandoned) kept) ∙ abandons)));
 }
 
-module _ {L : Type 0} (s t : Joined L) (d : ℕ) (same : IsAlike (swap_of s d) (swap_of t d)) (words : (o : ℕ) → IsSameWord (object s o) (object t o))
+module _ {L O R : Type 0} (s t : Joined L O R) (d : ℕ) (same : IsAlike (swap_of s d) (swap_of t d)) (words : (o : ℕ) → IsSameWord (object s o) (object t o))
     (kept : kept_of t d ≡ kept_of s d) (objects : many_objects t ≡ many_objects s) where
   pub kept_on : IsKept s d → IsKept t d
   kept_on old = record {
-    begun = λ o named. ap (λ (k : Kept). k.begun) kept ∙ old.begun o (sym same.named ∙ named);
-    there = λ o begun. rw objects (old.there o (sym (ap (λ (k : Kept). k.begun) kept) ∙ begun));
+    begun = λ o named. ap (λ (k : Kept R). k.begun) kept ∙ old.begun o (sym same.named ∙ named);
+    there = λ o begun. rw objects (old.there o (sym (ap (λ (k : Kept R). k.begun) kept) ∙ begun));
     found = λ answer is.
         ap (λ b. b || is_refused (swap_of t d)) same.idle ∙ ap (λ b. is_idle (swap_of s d) || b) same.refused
-        ∙ old.found answer (sym (ap (λ (k : Kept). k.found) kept) ∙ is);
+        ∙ old.found answer (sym (ap (λ (k : Kept R). k.found) kept) ∙ is);
   }
 
 -- a quiet event keeps what is kept beside
-kept_still : {L : Type 0} (s : Joined L) (event : Event) → is_quiet event ≡ true → kept_after_phases s event ≡ s.kept
+kept_still : {L O R : Type 0} (s : Joined L O R) (event : Event) → is_quiet event ≡ true → kept_after_phases s event ≡ s.kept
 kept_still s (Begin c o) quiet = absurd (cc)
 kept_still s (Unblock c) quiet = absurd (cc)
 kept_still s event quiet = refl
@@ -96,9 +96,9 @@ no_change (TurnOver c layout) quiet = absurd (cc)
 no_change (Clear c) quiet = absurd (cc)
 no_change event quiet = refl
 
-module _ {S L P : Type 0} (F : Layouts S L P) (declared : List L) (s : Joined L) (sound : phases.IsSound s.phases) (answered : AreAnswered s)
+module _ {S L P O R : Type 0} (F : Layouts S L P O R) (declared : List L) (s : Joined L O R) (sound : phases.IsSound s.phases) (answered : AreAnswered s)
     (event : Event) (there : caller_of event < many_callers s) (may : MayAtPhases F declared s event) (quiet : is_quiet event ≡ true) where
-  abbrev t : Joined L
+  abbrev t : Joined L O R
   t = effect s (AtPhases event)
 
   same : (d : ℕ) → IsAlike (swap_of s d) (swap_of t d)
@@ -129,7 +129,7 @@ module _ {S L P : Type 0} (F : Layouts S L P) (declared : List L) (s : Joined L)
       (λ d within. kept_on s t d (same d) words (kept_same d) on.objects (answered d within).kept)
       (λ d o answer within begun is.
       found_on s t on d o answer
-      ((answered d within).found o answer (sym (ap (λ (k : Kept). k.begun) (kept_same d)) ∙ begun) (sym (ap (λ (k : Kept). k.found) (kept_same d)) ∙ is)))
+      ((answered d within).found o answer (sym (ap (λ (k : Kept R). k.begun) (kept_same d)) ∙ begun) (sym (ap (λ (k : Kept R). k.found) (kept_same d)) ∙ is)))
       (λ d o within named.
       drawn_alike s t d o (same d) (kept_same d) (words o) refl (λ told. answered_on s t on d o told)
       ((answered d within).drawn o (sym (same d).named ∙ named)))

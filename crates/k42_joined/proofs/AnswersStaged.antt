@@ -23,8 +23,8 @@ use Rattle.k42_joined.proofs.AnswersOwn.{MovesOn}
 pub same_on : (k : Object) → WordGoesOn k k
 same_on k = word_on k k (same_word k)
 
-module _ {L : Type 0} (s : Joined L) (c : ℕ) (there : c < many_callers s) (q : ℕ) (next : SwapAt) (k : Object) (kept : List Kept) where
-  abbrev pub t : Joined L
+module _ {L O R : Type 0} (s : Joined L O R) (c : ℕ) (there : c < many_callers s) (q : ℕ) (next : SwapAt) (k : Object) (kept : List (Kept R)) where
+  abbrev pub t : Joined L O R
   t = record s { phases = staged s.phases c q next k; kept = kept }
 
   pub swap_here : swap_of t c ≡ next
@@ -48,7 +48,7 @@ module _ {L : Type 0} (s : Joined L) (c : ℕ) (there : c < many_callers s) (q :
   -- what is asked of the step
   abbrev Reached : Type 0
   Reached =
-      (number : ℕ) (e : Entry) → In e (mine s c) → e.answer ≡ Swapped number → number ≡ incarnation s e.object + 1
+      (number : ℕ) (e : Entry O R) → In e (mine s c) → e.answer ≡ Swapped number → number ≡ incarnation s e.object + 1
       → swap_of s c ≡ Moved e.object → IsKnownNumber t c e.object number
 
   abbrev Rival : Type 0

@@ -20,7 +20,7 @@ pub record WordGoesOn (k l : Object) : Type 0 where
   pub number : swap_number k ≤ swap_number l
   pub over : (k.layout ≡ 2) ⊎ (k.incarnation ≡ LAST_INCARNATION) → IsSameRow k l
 
-pub true_on : (k l : Object) (i : ℕ) (answer : Answer) → WordGoesOn k l → IsTrueOf k i answer → IsTrueOf l i answer
+pub true_on : {R : Type 0} (k l : Object) (i : ℕ) (answer : Answer R) → WordGoesOn k l → IsTrueOf k i answer → IsTrueOf l i answer
 true_on k l i Spent on is =
     let same = on.over (inr is.1) in
     (is.0 ∙ sym same.incarnation, same.incarnation ∙ is.1, λ two. is.2 (sym same.layout ∙ two))
@@ -31,7 +31,7 @@ true_on k l i (Busy number) on is = tt
 true_on k l i (Abandoned number) on is = tt
 
 -- where the object is over, what is true of its own incarnation stays so
-pub true_now : (k l : Object) (answer : Answer) → WordGoesOn k l → IsTrueOf k k.incarnation answer → IsTrueOf l l.incarnation answer
+pub true_now : {R : Type 0} (k l : Object) (answer : Answer R) → WordGoesOn k l → IsTrueOf k k.incarnation answer → IsTrueOf l l.incarnation answer
 true_now k l Spent on is = let same = on.over (inr is.1) in (refl, same.incarnation ∙ is.1, λ two. is.2 (sym same.layout ∙ two))
 true_now k l Gone on is = let same = on.over (inl is.1) in (refl, same.layout ∙ is.1)
 true_now k l (Replied reply) on is = tt
@@ -39,21 +39,21 @@ true_now k l (Swapped number) on is = tt
 true_now k l (Busy number) on is = tt
 true_now k l (Abandoned number) on is = tt
 
-module _ {L : Type 0} (s t : Joined L) where
+module _ {L O R : Type 0} (s t : Joined L O R) where
   pub record StepsOn : Type 0 where
     pub callers : many_callers t ≡ many_callers s
     pub objects : many_objects t ≡ many_objects s
     pub mines : (d : ℕ) → mine t d ≡ mine s d
     pub words : (o : ℕ) → WordGoesOn (object s o) (object t o)
     pub reached :
-        (d number : ℕ) (e : Entry) → d < many_callers s → In e (mine s d) → e.answer ≡ Swapped number
+        (d number : ℕ) (e : Entry O R) → d < many_callers s → In e (mine s d) → e.answer ≡ Swapped number
         → IsKnownNumber s d e.object number → IsKnownNumber t d e.object number
     pub rivals : (d o number : ℕ) → IsUnderWay s d o number → HasRival t d o number
 
   module _ (on : StepsOn) where
-    pub answered_on : (d o : ℕ) (told : Answer) → HasAnswered s d o told → HasAnswered t d o told
+    pub answered_on : (d o : ℕ) (told : Answer R) → HasAnswered s d o told → HasAnswered t d o told
     answered_on d o told has =
-        record { entry = has.entry; drawn = subst (λ (es : List Entry). In has.entry es) (sym (on.mines d)) has.drawn; object = has.object; answer = has.answer }
+        record { entry = has.entry; drawn = subst (λ (es : List (Entry O R)). In has.entry es) (sym (on.mines d)) has.drawn; object = has.object; answer = has.answer }
 
     pub rival_on : (d o number : ℕ) → HasRival s d o number → HasRival t d o number
     rival_on d o number rival =
@@ -63,13 +63,13 @@ module _ {L : Type 0} (s t : Joined L) where
           rival = is.rival;
           other = is.other;
           entry = is.entry;
-          drawn = subst (λ (es : List Entry). In is.entry es) (sym (on.mines is.rival)) is.drawn;
+          drawn = subst (λ (es : List (Entry O R)). In is.entry es) (sym (on.mines is.rival)) is.drawn;
           object = is.object;
           settles = is.settles;
         }))
         (λ (is : IsUnderWay s d o number). on.rivals d o number is) rival
 
-    answer_on : (d : ℕ) (e : Entry) → d < many_callers s → In e (mine s d) → IsAnswer s d e → IsAnswer t d e
+    answer_on : (d : ℕ) (e : Entry O R) → d < many_callers s → In e (mine s d) → IsAnswer s d e → IsAnswer t d e
     answer_on d e there is old =
         let word = on.words e.object in
         record {
@@ -79,13 +79,13 @@ module _ {L : Type 0} (s t : Joined L) where
           done = λ number answer. on.reached d number e there is answer (old.done number answer);
           over = true_on (object s e.object) (object t e.object) e.incarnation e.answer word old.over;
           last = λ over f number other within listed same answer.
-              old.last over f number other (rw on.callers at within) (subst (λ (es : List Entry). In other es) (on.mines f) listed) same answer;
+              old.last over f number other (rw on.callers at within) (subst (λ (es : List (Entry O R)). In other es) (on.mines f) listed) same answer;
           busy = λ number answer. let low = old.busy number answer in let rises = word.number in omega (arith, low, rises);
           abandoned = λ number answer. let low = old.abandoned number answer in let rises = word.number in omega (arith, low, rises);
           rival = λ number answer. rival_on d e.object number (old.rival number answer);
         }
 
-    pub found_on : (d o : ℕ) (answer : Answer) → IsFound s d o answer → IsFound t d o answer
+    pub found_on : (d o : ℕ) (answer : Answer R) → IsFound s d o answer → IsFound t d o answer
     found_on d o answer old =
         let word = on.words o in
         record {
@@ -93,12 +93,12 @@ module _ {L : Type 0} (s t : Joined L) where
           some = old.some;
           busy = λ number is. let low = old.busy number is in let rises = word.number in omega (arith, low, rises);
           rival = λ number is. rival_on d o number (old.rival number is);
-          timely = λ number e is busy. subst (λ (es : List Entry). AreTimely (es ++ e ∷ [])) (sym (on.mines d)) (old.timely number e is busy);
+          timely = λ number e is busy. subst (λ (es : List (Entry O R)). AreTimely (es ++ e ∷ [])) (sym (on.mines d)) (old.timely number e is busy);
         }
 
     -- what is kept beside, and what swaps have drawn, is shown by itself
     pub answered_after : AreAnswered s → ((d : ℕ) → d < many_callers s → IsKept t d)
-        → ((d o : ℕ) (answer : Answer) → d < many_callers s → (kept_of t d).begun ≡ Some o → (kept_of t d).found ≡ Some answer → IsFound t d o answer)
+        → ((d o : ℕ) (answer : Answer R) → d < many_callers s → (kept_of t d).begun ≡ Some o → (kept_of t d).found ≡ Some answer → IsFound t d o answer)
         → ((d o : ℕ) → d < many_callers s → named_by (swap_of t d) ≡ Some o → HasDrawn t d o)
         → AreAnswered t
     answered_after answered kept found drawn d within =
@@ -107,7 +107,7 @@ module _ {L : Type 0} (s t : Joined L) where
         record {
           kept = kept d there;
           timely = subst AreTimely (sym (on.mines d)) old.timely;
-          each = λ e is. let listed : In e (mine s d) = subst (λ (es : List Entry). In e es) (on.mines d) is in
+          each = λ e is. let listed : In e (mine s d) = subst (λ (es : List (Entry O R)). In e es) (on.mines d) is in
               answer_on d e there listed (old.each e listed);
           found = λ o answer begun is. found d o answer there begun is;
           drawn = λ o named. drawn d o there named;

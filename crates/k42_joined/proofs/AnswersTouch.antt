@@ -16,21 +16,21 @@ use Rattle.k42_joined.proofs.AnswersQuiet.{under_way_on, drawn_alike}
 use Rattle.k42_joined.proofs.AnswersStaged.{same_on}
 use Rattle.k42_joined.proofs.AnswersWords.{same_word, alike}
 
-abbrev pub is_touch : TurnEvent → Bool
+abbrev pub is_touch : {O R : Type 0} → TurnEvent O R → Bool
 is_touch (Draw c cells entry) = false
 is_touch (Alone c entry) = false
 is_touch (Hand c from onto entry) = false
 is_touch event = true
 
-same_drawn : (callers : List Caller) (c d : ℕ) (x : Caller) → x.mine ≡ (get_or callers c fresh_caller).mine → drawn_by (set callers c x) d ≡ drawn_by callers d
-same_drawn callers c d x same =
-    get_or-set_related (λ (y z : Caller). z.mine ≡ y.mine) (λ y. refl) callers c d x fresh_caller same
+same_drawn : {O R : Type 0} (callers : List (Caller O R)) (c d : ℕ) (x : Caller O R) → x.mine ≡ (get_or callers c fresh_caller).mine → drawn_by (set callers c x) d ≡ drawn_by callers d
+same_drawn {O} {R} callers c d x same =
+    get_or-set_related (λ (y z : Caller O R). z.mine ≡ y.mine) (λ y. refl) callers c d x fresh_caller same
 
-locked_drawn : (t : Turns) (c n d : ℕ) (lock : Option ℕ) → drawn_by (turn_events.locked t c n lock).callers d ≡ drawn_by t.callers d
+locked_drawn : {O R : Type 0} (t : Turns O R) (c n d : ℕ) (lock : Option ℕ) → drawn_by (turn_events.locked t c n lock).callers d ≡ drawn_by t.callers d
 locked_drawn t c n d None = same_drawn t.callers c d (caller_locked n (caller_at t c)) refl
 locked_drawn t c n d (Some holder) = refl
 
-touched_drawn : (t : Turns) (event : TurnEvent) → is_touch event ≡ true → (d : ℕ) → drawn_by (turn_events.effect t event).callers d ≡ drawn_by t.callers d
+touched_drawn : {O R : Type 0} (t : Turns O R) (event : TurnEvent O R) → is_touch event ≡ true → (d : ℕ) → drawn_by (turn_events.effect t event).callers d ≡ drawn_by t.callers d
 touched_drawn t (Lock c n) touch d = locked_drawn t c n d (cell_at t n).lock
 touched_drawn t (Take c n) touch d = refl
 touched_drawn t (Put c n) touch d = refl
@@ -38,8 +38,8 @@ touched_drawn t (Unlock c n) touch d = same_drawn t.callers c d (caller_unlocked
 touched_drawn t (Skip c stamp) touch d = same_drawn t.callers c d (caller_skipped stamp (caller_at t c)) refl
 touched_drawn t event touch d = absurd (cc)
 
-module _ {L : Type 0} (s : Joined L) (answered : AreAnswered s) (event : TurnEvent) (touch : is_touch event ≡ true) where
-  abbrev t : Joined L
+module _ {L O R : Type 0} (s : Joined L O R) (answered : AreAnswered s) (event : TurnEvent O R) (touch : is_touch event ≡ true) where
+  abbrev t : Joined L O R
   t = record s { turns = turn_events.effect s.turns event }
 
   on : StepsOn s t

@@ -29,7 +29,7 @@ use Rattle.k42_joined.proofs.RowsCells.{list_here}
 use Rattle.k42_joined.proofs.RowsStamps.{in_place, place_in, in_own, own_caller}
 
 -- what a refusal, and an abandoned swap, of a history must meet
-abbrev pub IsLegallyHeldUp : List Entry → Entry → List Entry → Type 0
+abbrev pub IsLegallyHeldUp : {O R : Type 0} → List (Entry O R) → Entry O R → List (Entry O R) → Type 0
 IsLegallyHeldUp before entry after =
     ((number : ℕ) → entry.answer ≡ Busy number → IsLegalRefusal before entry after number)
     × ((number : ℕ) → entry.answer ≡ Abandoned number → IsTimely before entry after number)
@@ -87,27 +87,27 @@ cut_before (x ∷ xs) (suc i) (suc j) y h less at_i at_j =
 
 -- of a list in order, what stands before an element is before it
 
-ordered_front : (front : List Entry) (h : Entry) (back : List Entry) (y : Entry) → Ordered IsBefore (front ++ h ∷ back) → In y front → IsBefore y h
+ordered_front : {O R : Type 0} (front : List (Entry O R)) (h : Entry O R) (back : List (Entry O R)) (y : Entry O R) → Ordered IsBefore (front ++ h ∷ back) → In y front → IsBefore y h
 ordered_front [] h back y ordered is = absurd is
-ordered_front (x ∷ front) h back y ordered is =
+ordered_front {O} {R} (x ∷ front) h back y ordered is =
     ⊎_elim {C = IsBefore y h}
     (λ (same : y ≡ x).
-    subst (λ (z : Entry). IsBefore z h) (sym same) (all_at (IsBefore x) (front ++ h ∷ back) h ordered.0 (in_right h front (h ∷ back) (inl refl))))
+    subst (λ (z : Entry O R). IsBefore z h) (sym same) (all_at (IsBefore x) (front ++ h ∷ back) h ordered.0 (in_right h front (h ∷ back) (inl refl))))
     (λ (more : In y front). ordered_front front h back y ordered.1 more) is
 
-ordered_back : (front : List Entry) (h : Entry) (back : List Entry) (y : Entry) → Ordered IsBefore (front ++ h ∷ back) → In y back → IsBefore h y
+ordered_back : {O R : Type 0} (front : List (Entry O R)) (h : Entry O R) (back : List (Entry O R)) (y : Entry O R) → Ordered IsBefore (front ++ h ∷ back) → In y back → IsBefore h y
 ordered_back [] h back y ordered is = all_at (IsBefore h) back y ordered.0 is
 ordered_back (x ∷ front) h back y ordered is = ordered_back front h back y ordered.1 is
 
 -- entries that are numbered anew
 
-abbrev stamped : Entry → ℕ → Entry
+abbrev stamped : {O R : Type 0} → Entry O R → ℕ → Entry O R
 stamped entry stamp = record entry { stamp = stamp }
 
-pub record IsNumberedCut (n : ℕ) (es before : List Entry) (e : Entry) (after : List Entry) : Type 0 where
-  pub front : List Entry
-  pub here : Entry
-  pub back : List Entry
+pub record IsNumberedCut {O R : Type 0} (n : ℕ) (es before : List (Entry O R)) (e : Entry O R) (after : List (Entry O R)) : Type 0 where
+  pub front : List (Entry O R)
+  pub here : Entry O R
+  pub back : List (Entry O R)
   pub cut : es ≡ front ++ here ∷ back
   pub stamp : ℕ
   pub before_is : before ≡ numbered_from n front
@@ -115,14 +115,14 @@ pub record IsNumberedCut (n : ℕ) (es before : List Entry) (e : Entry) (after :
   pub next : ℕ
   pub after_is : after ≡ numbered_from next back
 
-record AreHeads (x y : Entry) (xs ys : List Entry) : Type 0 where
+record AreHeads {O R : Type 0} (x y : Entry O R) (xs ys : List (Entry O R)) : Type 0 where
   head : x ≡ y
   tail : xs ≡ ys
 
-are_heads : (x y : Entry) (xs ys : List Entry) → x ∷ xs ≡ y ∷ ys → AreHeads x y xs ys
+are_heads : {O R : Type 0} (x y : Entry O R) (xs ys : List (Entry O R)) → x ∷ xs ≡ y ∷ ys → AreHeads x y xs ys
 are_heads x y xs ys same = record { head = cc; tail = cc }
 
-pub numbered_cut : (n : ℕ) (es before : List Entry) (e : Entry) (after : List Entry) → numbered_from n es ≡ before ++ e ∷ after → IsNumberedCut n es before e after
+pub numbered_cut : {O R : Type 0} (n : ℕ) (es before : List (Entry O R)) (e : Entry O R) (after : List (Entry O R)) → numbered_from n es ≡ before ++ e ∷ after → IsNumberedCut n es before e after
 numbered_cut n [] [] e after is = absurd (cc)
 numbered_cut n [] (b ∷ before) e after is = absurd (cc)
 numbered_cut n (x ∷ es) [] e after is =
@@ -138,7 +138,7 @@ numbered_cut n (x ∷ es) [] e after is =
       next = suc n;
       after_is = sym same.tail;
     }
-numbered_cut n (x ∷ es) (b ∷ before) e after is =
+numbered_cut {O} {R} n (x ∷ es) (b ∷ before) e after is =
     let same = are_heads (stamped x n) b (numbered_from (suc n) es) (before ++ e ∷ after) is in
     let rest = numbered_cut (suc n) es before e after same.tail in
     record {
@@ -147,7 +147,7 @@ numbered_cut n (x ∷ es) (b ∷ before) e after is =
       back = rest.back;
       cut = ap (λ ys. x ∷ ys) rest.cut;
       stamp = rest.stamp;
-      before_is = ap (λ (y : Entry). y ∷ before) (sym same.head) ∙ ap (λ ys. stamped x n ∷ ys) rest.before_is;
+      before_is = ap (λ (y : Entry O R). y ∷ before) (sym same.head) ∙ ap (λ ys. stamped x n ∷ ys) rest.before_is;
       here_is = rest.here_is;
       next = rest.next;
       after_is = rest.after_is;
@@ -155,13 +155,13 @@ numbered_cut n (x ∷ es) (b ∷ before) e after is =
 
 -- a numbered entry is one of the entries but for its stamp, and each is numbered
 
-record WasOf (x : Entry) (es : List Entry) : Type 0 where
-  entry : Entry
+record WasOf {O R : Type 0} (x : Entry O R) (es : List (Entry O R)) : Type 0 where
+  entry : Entry O R
   has : In entry es
   stamp : ℕ
   same : x ≡ stamped entry stamp
 
-numbered_was : (n : ℕ) (es : List Entry) (x : Entry) → In x (numbered_from n es) → WasOf x es
+numbered_was : {O R : Type 0} (n : ℕ) (es : List (Entry O R)) (x : Entry O R) → In x (numbered_from n es) → WasOf x es
 numbered_was n [] x is = absurd is
 numbered_was n (y ∷ es) x is =
     ⊎_elim {C = WasOf x (y ∷ es)} (λ (same : x ≡ stamped y n). record { entry = y; has = inl refl; stamp = n; same = same })
@@ -169,52 +169,52 @@ numbered_was n (y ∷ es) x is =
     let rest = numbered_was (suc n) es x more in
     record { entry = rest.entry; has = inr rest.has; stamp = rest.stamp; same = rest.same }) is
 
-numbered_has : (n : ℕ) (es : List Entry) (y : Entry) → In y es → (stamp : ℕ) × In (stamped y stamp) (numbered_from n es)
+numbered_has : {O R : Type 0} (n : ℕ) (es : List (Entry O R)) (y : Entry O R) → In y es → (stamp : ℕ) × In (stamped y stamp) (numbered_from n es)
 numbered_has n [] y is = absurd is
 numbered_has n (x ∷ es) y is =
     ⊎_elim {C = (stamp : ℕ) × In (stamped y stamp) (numbered_from n (x ∷ es))}
     (λ (same : y ≡ x). (n, inl (ap (λ z. stamped z n) same)))
     (λ (more : In y es). let rest = numbered_has (suc n) es y more in (rest.0, inr rest.1)) is
 
-any_in : (P : Entry → Type 0) (xs : List Entry) (x : Entry) → In x xs → P x → Any P xs
+any_in : {O R : Type 0} (P : Entry O R → Type 0) (xs : List (Entry O R)) (x : Entry O R) → In x xs → P x → Any P xs
 any_in P xs x is holds =
     let placed = in_place x xs is in
     (placed.place, x, slice_get_within xs placed.place x placed.at, get_or_from_slice_get xs placed.place x x placed.at, holds)
 
-module _ {L : Type 0} (s : Joined L) (many : AreAsMany s) (turns_sound : turns.IsSound s.turns) (answered : AreAnswered s)
-    (trace : List Entry) (is : IsTrace (lists_of s) trace) where
+module _ {L O R : Type 0} (s : Joined L O R) (many : AreAsMany s) (turns_sound : turns.IsSound s.turns) (answered : AreAnswered s)
+    (trace : List (Entry O R)) (is : IsTrace (lists_of s) trace) where
   -- an entry of a list is its caller's, who is there
 
-  mine_there : (d : ℕ) (f : Entry) → In f (mine s d) → d < many_callers s
+  mine_there : (d : ℕ) (f : Entry O R) → In f (mine s d) → d < many_callers s
   mine_there d f listed = ⊎_elim (λ there. rw (← many.callers) there)
-      (λ past. absurd (subst (λ (x : Caller). In f x.mine) (get_or_past s.turns.callers d fresh_caller past) listed)) (cases_lt d (length s.turns.callers))
+      (λ past. absurd (subst (λ (x : Caller O R). In f x.mine) (get_or_past s.turns.callers d fresh_caller past) listed)) (cases_lt d (length s.turns.callers))
 
-  caller_is : (d : ℕ) (f : Entry) → In f (mine s d) → f.caller ≡ d
+  caller_is : (d : ℕ) (f : Entry O R) → In f (mine s d) → f.caller ≡ d
   caller_is d f listed = own_caller s.turns turns_sound d f (rw many.callers (mine_there d f listed)) listed
 
-  into_trace : (d : ℕ) (f : Entry) → In f (mine s d) → In f trace
+  into_trace : (d : ℕ) (f : Entry O R) → In f (mine s d) → In f trace
   into_trace d f listed =
       is.all f (record { place = d; list = mine s d; there = list_here s d (rw many.callers (mine_there d f listed)); has = listed })
 
-  from_trace : (f : Entry) → In f trace → In f (mine s f.caller)
+  from_trace : (f : Entry O R) → In f trace → In f (mine s f.caller)
   from_trace f has = (in_own s.turns turns_sound f (is.only f has)).1
 
-  module _ (front : List Entry) (here : Entry) (back : List Entry) (cut : trace ≡ front ++ here ∷ back) where
+  module _ (front : List (Entry O R)) (here : Entry O R) (back : List (Entry O R)) (cut : trace ≡ front ++ here ∷ back) where
     ordered : Ordered IsBefore (front ++ here ∷ back)
     ordered = subst (λ es. Ordered IsBefore es) cut is.ordered
 
-    in_trace : (f : Entry) → In f (front ++ here ∷ back) → In f trace
+    in_trace : (f : Entry O R) → In f (front ++ here ∷ back) → In f trace
     in_trace f has = subst (λ es. In f es) (sym cut) has
 
     own_list : In here (mine s here.caller)
     own_list = from_trace here (in_trace here (in_right here front (here ∷ back) (inl refl)))
 
-    same_list : (y : Entry) → In y trace → y.caller ≡ here.caller → In y (mine s here.caller)
+    same_list : (y : Entry O R) → In y trace → y.caller ≡ here.caller → In y (mine s here.caller)
     same_list y has same = subst (λ d. In y (mine s d)) same (from_trace y has)
 
     -- entries of one caller stand in the trace as in its list
 
-    stands_behind : (y : Entry) → In y front → y.caller ≡ here.caller → CutBehind (mine s here.caller) y here
+    stands_behind : (y : Entry O R) → In y front → y.caller ≡ here.caller → CutBehind (mine s here.caller) y here
     stands_behind y has same =
         let before = ordered_front front here back y ordered has in
         let low = before_stamp y here before in
@@ -224,14 +224,14 @@ module _ {L : Type 0} (s : Joined L) (many : AreAsMany s) (turns_sound : turns.I
         (λ high. ⊎_elim {C = CutBehind (mine s here.caller) y here}
         (λ (one : at_y.place ≡ at_here.place).
         let alike : y ≡ here = same_Some y here (sym at_y.at ∙ ap (slice_get (mine s here.caller)) one ∙ at_here.at) in
-        absurd (before-irreflexive here (subst (λ (z : Entry). IsBefore z here) alike before)))
+        absurd (before-irreflexive here (subst (λ (z : Entry O R). IsBefore z here) alike before)))
         (λ other.
         let more = lists-rise s.turns here.caller turns_sound at_here.place at_y.place here y (omega (arith, high, other)) at_here.at at_y.at in
         absurd (omega (arith, low, more)))
         (cases_eq at_y.place at_here.place))
         (cases_lt at_y.place at_here.place)
 
-    stands_before : (y : Entry) → In y back → y.caller ≡ here.caller → CutBefore (mine s here.caller) y here
+    stands_before : (y : Entry O R) → In y back → y.caller ≡ here.caller → CutBefore (mine s here.caller) y here
     stands_before y has same =
         let before = ordered_back front here back y ordered has in
         let low = before_stamp here y before in
@@ -241,7 +241,7 @@ module _ {L : Type 0} (s : Joined L) (many : AreAsMany s) (turns_sound : turns.I
         (λ high. ⊎_elim {C = CutBefore (mine s here.caller) y here}
         (λ (one : at_here.place ≡ at_y.place).
         let alike : here ≡ y = same_Some here y (sym at_here.at ∙ ap (slice_get (mine s here.caller)) one ∙ at_y.at) in
-        absurd (before-irreflexive here (subst (λ (z : Entry). IsBefore here z) (sym alike) before)))
+        absurd (before-irreflexive here (subst (λ (z : Entry O R). IsBefore here z) (sym alike) before)))
         (λ other.
         let more = lists-rise s.turns here.caller turns_sound at_y.place at_here.place y here (omega (arith, high, other)) at_y.at at_here.at in
         absurd (omega (arith, low, more)))
@@ -252,21 +252,21 @@ module _ {L : Type 0} (s : Joined L) (many : AreAsMany s) (turns_sound : turns.I
     own = answered here.caller (mine_there here.caller here own_list)
 
     -- what is asked of the caller's list holds of the trace
-    module _ (number : ℕ) (timely : (before after : List Entry) → mine s here.caller ≡ before ++ here ∷ after → IsTimely before here after number) where
-      not_past : (y : Entry) → In y front → IsOwn here y → IsNotPast number y
+    module _ (number : ℕ) (timely : (before after : List (Entry O R)) → mine s here.caller ≡ before ++ here ∷ after → IsTimely before here after number) where
+      not_past : (y : Entry O R) → In y front → IsOwn here y → IsNotPast number y
       not_past y has other =
           let stands = stands_behind y has other.caller in
           let cut_is = stands.cut in
-          all_at (λ (z : Entry). IsOwn here z → IsNotPast number z) cut_is.before y
-          (recursion_from_All (λ (z : Entry). IsOwn here z → IsNotPast number z) cut_is.before (timely cut_is.before cut_is.after cut_is.cut).earlier)
+          all_at (λ (z : Entry O R). IsOwn here z → IsNotPast number z) cut_is.before y
+          (recursion_from_All (λ (z : Entry O R). IsOwn here z → IsNotPast number z) cut_is.before (timely cut_is.before cut_is.after cut_is.cut).earlier)
           stands.has other
 
-      not_below : (y : Entry) → In y back → IsOwn here y → number ≤ y.incarnation + 1
+      not_below : (y : Entry O R) → In y back → IsOwn here y → number ≤ y.incarnation + 1
       not_below y has other =
           let stands = stands_before y has other.caller in
           let cut_is = stands.cut in
-          all_at (λ (z : Entry). IsOwn here z → number ≤ z.incarnation + 1) cut_is.after y
-          (recursion_from_All (λ (z : Entry). IsOwn here z → number ≤ z.incarnation + 1) cut_is.after (timely cut_is.before cut_is.after cut_is.cut).later)
+          all_at (λ (z : Entry O R). IsOwn here z → number ≤ z.incarnation + 1) cut_is.after y
+          (recursion_from_All (λ (z : Entry O R). IsOwn here z → number ≤ z.incarnation + 1) cut_is.after (timely cut_is.before cut_is.after cut_is.cut).later)
           stands.has other
 
       next_is : here.incarnation + 1 ≡ number
@@ -278,20 +278,20 @@ module _ {L : Type 0} (s : Joined L) (many : AreAsMany s) (turns_sound : turns.I
       numbered_timely : (n stamp next : ℕ) → IsTimely (numbered_from n front) (stamped here stamp) (numbered_from next back) number
       numbered_timely n stamp next = record {
         incarnation = next_is;
-        earlier = All-from_recursion (λ (z : Entry). IsOwn (stamped here stamp) z → IsNotPast number z) (numbered_from n front)
-            (all_in (λ (z : Entry). IsOwn (stamped here stamp) z → IsNotPast number z) (numbered_from n front)
+        earlier = All-from_recursion (λ (z : Entry O R). IsOwn (stamped here stamp) z → IsNotPast number z) (numbered_from n front)
+            (all_in (λ (z : Entry O R). IsOwn (stamped here stamp) z → IsNotPast number z) (numbered_from n front)
             (λ z has other.
             let was = numbered_was n front z has in
             let old = not_past was.entry was.has
-            (record { caller = sym (ap (λ (g : Entry). g.caller) was.same) ∙ other.caller; object = sym (ap (λ (g : Entry). g.object) was.same) ∙ other.object }) in
-            subst (λ (g : Entry). IsNotPast number g) (sym was.same) (record { incarnation = old.incarnation; carried_out = old.carried_out })));
-        later = All-from_recursion (λ (z : Entry). IsOwn (stamped here stamp) z → number ≤ z.incarnation + 1) (numbered_from next back)
-            (all_in (λ (z : Entry). IsOwn (stamped here stamp) z → number ≤ z.incarnation + 1) (numbered_from next back)
+            (record { caller = sym (ap (λ (g : Entry O R). g.caller) was.same) ∙ other.caller; object = sym (ap (λ (g : Entry O R). g.object) was.same) ∙ other.object }) in
+            subst (λ (g : Entry O R). IsNotPast number g) (sym was.same) (record { incarnation = old.incarnation; carried_out = old.carried_out })));
+        later = All-from_recursion (λ (z : Entry O R). IsOwn (stamped here stamp) z → number ≤ z.incarnation + 1) (numbered_from next back)
+            (all_in (λ (z : Entry O R). IsOwn (stamped here stamp) z → number ≤ z.incarnation + 1) (numbered_from next back)
             (λ z has other.
             let was = numbered_was next back z has in
             let old = not_below was.entry was.has
-            (record { caller = sym (ap (λ (g : Entry). g.caller) was.same) ∙ other.caller; object = sym (ap (λ (g : Entry). g.object) was.same) ∙ other.object }) in
-            subst (λ (g : Entry). number ≤ g.incarnation + 1) (sym was.same) old));
+            (record { caller = sym (ap (λ (g : Entry O R). g.caller) was.same) ∙ other.caller; object = sym (ap (λ (g : Entry O R). g.object) was.same) ∙ other.object }) in
+            subst (λ (g : Entry O R). number ≤ g.incarnation + 1) (sym was.same) old));
       }
 
     -- where no swap is under way, the rival's swap is settled
@@ -321,7 +321,7 @@ module _ {L : Type 0} (s : Joined L) (many : AreAsMany s) (turns_sound : turns.I
         (in_left (stamped settles.entry found.0) (numbered_from n front) (numbered_from next back) found.1) (at_stamp found.0))
         (λ (late : In settles.entry (here ∷ back)).
         ⊎_elim {C = Any (IsRival (stamped here stamp) number) (numbered_from n front ++ numbered_from next back)}
-        (λ (same : settles.entry ≡ here). absurd (other (ap (λ (g : Entry). g.caller) same)))
+        (λ (same : settles.entry ≡ here). absurd (other (ap (λ (g : Entry O R). g.caller) same)))
         (λ (later : In settles.entry back).
         let found = numbered_has next back settles.entry later in
         any_in (IsRival (stamped here stamp) number) (numbered_from n front ++ numbered_from next back) (stamped settles.entry found.0)
@@ -343,6 +343,6 @@ module _ {L : Type 0} (s : Joined L) (many : AreAsMany s) (turns_sound : turns.I
   held_up_legal none before e after split =
       let at = numbered_cut 1 trace before e after split in
       subst (λ es. IsLegallyHeldUp es e after) (sym at.before_is)
-      (subst (λ (f : Entry). IsLegallyHeldUp (numbered_from 1 at.front) f after) (sym at.here_is)
+      (subst (λ (f : Entry O R). IsLegallyHeldUp (numbered_from 1 at.front) f after) (sym at.here_is)
       (subst (λ es. IsLegallyHeldUp (numbered_from 1 at.front) (stamped at.here at.stamp) es) (sym at.after_is)
       (held_up_here at.front at.here at.back at.cut none 1 at.stamp at.next)))

@@ -34,14 +34,14 @@ use Rattle.k42_joined.proofs.Toy.{Toy, one_part, spread, reach, F, laws}
 abbrev declared : List Toy
 declared = spread ∷ []
 
-abbrev begin : Joined Toy
+abbrev begin : Joined Toy Op Reply
 begin = fresh F declared (0 ∷ 1 ∷ [])
 
-abbrev run : List (Event Toy) → Joined Toy → Joined Toy
+abbrev run : List (Event Toy Op Reply) → Joined Toy Op Reply → Joined Toy Op Reply
 run [] s = s
 run (event ∷ events) s = run events (effect s event)
 
-abbrev call : ℕ → ℕ → ℕ → Op → Reply → Entry
+abbrev call : ℕ → ℕ → ℕ → Op → Reply → Entry Op Reply
 call stamp caller index op reply = record {
   stamp = stamp;
   caller = caller;
@@ -55,14 +55,14 @@ call stamp caller index op reply = record {
   generation = Some 0;
 }
 
-abbrev five : Entry
+abbrev five : Entry Op Reply
 five = call 1 0 0 (Add 5) Done
 
-abbrev seven : Entry
+abbrev seven : Entry Op Reply
 seven = call 2 0 1 (Add 7) Done
 
 -- both callers are inside, caller 0 has drawn twice at its cell, and caller 1 has taken its own
-abbrev inside : Joined Toy
+abbrev inside : Joined Toy Op Reply
 inside = run (
     AtPhases (Turn (Enter 0)) ∷ AtPhases (LookUp 0 0) ∷ AtPhases (Install 0 0)
     ∷ AtPhases (Turn (Enter 1)) ∷ AtPhases (LookUp 1 0) ∷ AtPhases (Install 1 0)
@@ -70,7 +70,7 @@ inside = run (
     ∷ AtCells (Lock 1 1) ∷ AtCells (Take 1 1) ∷ []
     ) begin
 
-abbrev chain : Chain Toy ℕ
+abbrev chain : Chain Toy ℕ Op Reply
 chain = record { past = []; row = record { layout = spread; start = 0 ∷ 0 ∷ []; entries = five ∷ seven ∷ [] } }
 
 left : (cell : ℕ) → cell < 2 → history_in inside 0 0 cell ≡ left_at F [] chain.row cell
@@ -100,7 +100,7 @@ rows = record {
 }
 
 -- a call below a stamp of another cell: it comes between the two in the order
-abbrev three : Entry
+abbrev three : Entry Op Reply
 three = call 1 1 0 (Add 3) Done
 
 three_may : IsPossible F declared inside (AtCells (Draw 1 (1 ∷ []) three))
@@ -120,7 +120,7 @@ three_may = record {
         reply = Done;
         answer = refl;
         replied = λ x is.
-            subst (λ (y : Chain Toy ℕ). row_replied (F.ways_of y.row.layout) (parts_of F y.row) (Add 3) (reach_of F y.row.layout three) ≡ Some Done)
+            subst (λ (y : Chain Toy ℕ Op Reply). row_replied (F.ways_of y.row.layout) (parts_of F y.row) (Add 3) (reach_of F y.row.layout three) ≡ Some Done)
             (rows_are_one F laws spread inside 0 chain x rows is) refl;
       };
     };
@@ -154,7 +154,7 @@ low_stamp : IsPossible F declared inside (AtCells (Draw 1 (1 ∷ []) (call 0 1 0
 low_stamp possible = let core : false ≡ true = possible.may.core in cc
 
 -- a swap up to its hand, while caller 1 waits at the mediator
-abbrev waiting : Joined Toy
+abbrev waiting : Joined Toy Op Reply
 waiting = run (
     AtPhases (Begin 0 0) ∷ AtPhases (Interpose 0) ∷ AtPhases (Interpose 0) ∷ AtPhases (TakeRoleWith 0 ((0, 0) ∷ []))
     ∷ AtPhases (Turn (LookAhead 0)) ∷ AtPhases (Turn (Flip 0)) ∷ AtPhases (Turn (LookAhead 0)) ∷ AtPhases (Turn (Flip 0))
@@ -167,7 +167,7 @@ waiting = run (
 waits : (visitor_at waiting.phases 1).place ≡ Blocked 0
 waits = refl
 
-abbrev swap : Entry
+abbrev swap : Entry Op Reply
 swap = record {
   stamp = 1;
   caller = 0;
@@ -181,7 +181,7 @@ swap = record {
   generation = None;
 }
 
-abbrev hand : Event Toy
+abbrev hand : Event Toy Op Reply
 hand = HandWith 0 (0 ∷ 1 ∷ []) (8 ∷ 9 ∷ []) one_part swap
 
 hand_may : IsPossible F declared waiting hand
@@ -224,7 +224,7 @@ no_same_cells : IsPossible F declared waiting (HandWith 0 (0 ∷ 1 ∷ []) (0 �
 no_same_cells possible = let core : false ≡ true = possible.may.core in cc
 
 -- a caller that knocked before the block is inside, so the object is not moved, and there is no hand
-abbrev tracked : Joined Toy
+abbrev tracked : Joined Toy Op Reply
 tracked = run (
     AtPhases (Begin 0 0) ∷ AtPhases (Interpose 0) ∷ AtPhases (Interpose 0) ∷ AtPhases (TakeRoleWith 0 ((0, 0) ∷ []))
     ∷ AtPhases (Turn (LookAhead 0)) ∷ AtPhases (Turn (Flip 0)) ∷ AtPhases (Turn (LookAhead 0)) ∷ AtPhases (Turn (Flip 0))
@@ -239,10 +239,10 @@ no_hand_inside : IsPossible F declared tracked hand → ⊥
 no_hand_inside possible = let moved : Blocking 0 ≡ Moved 0 = possible.may.beside.moved in cc
 
 -- a refusal that rests on an entry which its rival has not drawn yet
-abbrev refused : Joined Toy
+abbrev refused : Joined Toy Op Reply
 refused = run (AtPhases (Begin 0 0) ∷ AtPhases (Begin 1 0) ∷ []) begin
 
-abbrev busy : ℕ → Entry
+abbrev busy : ℕ → Entry Op Reply
 busy number = record {
   stamp = 1;
   caller = 1;

@@ -31,9 +31,9 @@ use Rattle.k42_joined.proofs.RowsHistories.{fits_same}
 use Rattle.k42_joined.proofs.RowsDraw.{core_draw}
 use Rattle.k42_joined.proofs.RowsHand.{handed_rows}
 
-module _ {S L P : Type 0} (F : Layouts S L P) (laws : AreLaws F) (declared : List L) (s : Joined L) (sound : IsSound F declared s)
-    (o : ℕ) (declaration : L) (declares : slice_get declared o ≡ Some declaration) (x y : Chain L P) (was : AreRowsOf F declaration s o x) where
-  pub follows_draw : (c : ℕ) (cells : List ℕ) (e : Entry) → IsPossible F declared s (AtCells (Draw c cells e)) → e.object ≡ o
+module _ {S L P O R : Type 0} (F : Layouts S L P O R) (laws : AreLaws F) (declared : List L) (s : Joined L O R) (sound : IsSound F declared s)
+    (o : ℕ) (declaration : L) (declares : slice_get declared o ≡ Some declaration) (x y : Chain L P O R) (was : AreRowsOf F declaration s o x) where
+  pub follows_draw : (c : ℕ) (cells : List ℕ) (e : Entry O R) → IsPossible F declared s (AtCells (Draw c cells e)) → e.object ≡ o
       → AreRowsOf F declaration (effect s (AtCells (Draw c cells e))) o y → FollowsDraw F e x y
   follows_draw c cells e possible same is =
       let core = core_draw s.turns c cells e possible.may.core in
@@ -46,7 +46,7 @@ module _ {S L P : Type 0} (F : Layouts S L P) (laws : AreLaws F) (declared : Lis
       (subst (λ d. AreRowsOf F d (effect s (AtCells (Draw c cells e))) e.object drawn.after) own drawn.is)) is in
       subst (λ z. FollowsDraw F e x z) after (subst (λ z. FollowsDraw F e z drawn.after) here drawn.follows)
 
-  pub follows_hand : (c : ℕ) (from onto : List ℕ) (layout : L) (e : Entry) → IsPossible F declared s (HandWith c from onto layout e) → e.object ≡ o
+  pub follows_hand : (c : ℕ) (from onto : List ℕ) (layout : L) (e : Entry O R) → IsPossible F declared s (HandWith c from onto layout e) → e.object ≡ o
       → AreRowsOf F declaration (effect s (HandWith c from onto layout e)) o y → FollowsHand F layout e x y
   follows_hand c from onto layout e possible same is =
       let t = effect s (HandWith c from onto layout e) in
@@ -67,16 +67,16 @@ module _ {S L P : Type 0} (F : Layouts S L P) (laws : AreLaws F) (declared : Lis
       rows_are_one F laws declaration s o x y was (record { fits = is.fits; layouts = is.layouts })
 
 -- an event that draws at no cell of the object leaves its rows
-module _ {S L P : Type 0} (F : Layouts S L P) (laws : AreLaws F) (declared : List L) (s : Joined L) (sound : IsSound F declared s)
-    (o : ℕ) (declaration : L) (x : Chain L P) (was : AreRowsOf F declaration s o x) where
-  same_rows : (t : Turns) (kept : List Kept) → AreSameHistories s t → AreRowsOf F declaration (record s { turns = t; kept = kept }) o x
+module _ {S L P O R : Type 0} (F : Layouts S L P O R) (laws : AreLaws F) (declared : List L) (s : Joined L O R) (sound : IsSound F declared s)
+    (o : ℕ) (declaration : L) (x : Chain L P O R) (was : AreRowsOf F declaration s o x) where
+  same_rows : (t : Turns O R) (kept : List (Kept R)) → AreSameHistories s t → AreRowsOf F declaration (record s { turns = t; kept = kept }) o x
   same_rows t kept same = record {
     fits = fits_same F (history_in s o) (history_in (record s { turns = t; kept = kept }) o) declaration o x
         (λ row p less lt. ap (λ histories. get_or histories (row / 2) []) (same (cell_of o row p))) was.fits;
     layouts = was.layouts;
   }
 
-  touched : (changed : Cell → Cell) → ((y : Cell) → IsSameTold y (changed y)) → (n : ℕ) (callers : List Caller)
+  touched : (changed : Cell O R → Cell O R) → ((y : Cell O R) → IsSameTold y (changed y)) → (n : ℕ) (callers : List (Caller O R))
       → AreRowsOf F declaration (record s { turns = record { cells = (change_cell changed s.turns n).cells; callers = callers } }) o x
   touched changed same n callers =
       same_rows (record { cells = (change_cell changed s.turns n).cells; callers = callers }) s.kept
@@ -86,7 +86,7 @@ module _ {S L P : Type 0} (F : Layouts S L P) (laws : AreLaws F) (declared : Lis
   locked_rows c n None = touched (cell_locked c) (λ y. record { closed = refl; life = refl; history = refl; past = refl }) n _
   locked_rows c n (Some holder) = was
 
-  pub rows_stay : (event : Event L) → IsPossible F declared s event → (drawn_at event ≡ Some o → ⊥) → AreRowsOf F declaration (effect s event) o x
+  pub rows_stay : (event : Event L O R) → IsPossible F declared s event → (drawn_at event ≡ Some o → ⊥) → AreRowsOf F declaration (effect s event) o x
   rows_stay (AtPhases event) possible else = record { fits = was.fits; layouts = was.layouts }
   rows_stay (AtCells (Lock c n)) possible else = locked_rows c n (cell s n).lock
   rows_stay (AtCells (Take c n)) possible else = touched cell_taken (λ y. record { closed = refl; life = refl; history = refl; past = refl }) n _

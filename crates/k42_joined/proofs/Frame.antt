@@ -25,31 +25,31 @@ use Rattle.k42_joined.specs.State.{nothing_kept, kept_of}
 use Rattle.k42_joined.specs.Swapping.{kept_after_phases}
 use Rattle.k42_joined.proofs.PhaseSteps.{happened}
 
-turned : (s : Turns) (event : TurnEvent) → turns.is_possible s event ≡ true → happens s event ≡ turns.effect s event
+turned : {O R : Type 0} (s : Turns O R) (event : TurnEvent O R) → turns.is_possible s event ≡ true → happens s event ≡ turns.effect s event
 turned s event possible = rw possible refl
 
-module _ {S L P : Type 0} (F : Layouts S L P) (declared : List L) (s : Joined L) (sound : phases_sound.IsSound s.phases) where
+module _ {S L P O R : Type 0} (F : Layouts S L P O R) (declared : List L) (s : Joined L O R) (sound : phases_sound.IsSound s.phases) where
   kept_swap : (event : phase_events.Event) (d : ℕ) → d ≢ phase_events.caller_of event → get_or (kept_after_phases s event) d nothing_kept ≡ kept_of s d
   kept_swap (Begin c o) d other = get_or-set_other s.kept c d _ nothing_kept other
   kept_swap (Unblock c) d other = get_or-set_other s.kept c d _ nothing_kept other
   kept_swap event d other = refl
 
-  kept_turn : (event : TurnEvent) (d : ℕ) → d ≢ turns.caller_of event → get_or (kept_after_cells s event) d nothing_kept ≡ kept_of s d
+  kept_turn : (event : TurnEvent O R) (d : ℕ) → d ≢ turns.caller_of event → get_or (kept_after_cells s event) d nothing_kept ≡ kept_of s d
   kept_turn (Draw c ns entry) d other = get_or-set_other s.kept c d _ nothing_kept other
   kept_turn (Alone c entry) d other = get_or-set_other s.kept c d _ nothing_kept other
   kept_turn event d other = refl
 
-  lists_same : (event : TurnEvent) → turns.is_possible s.turns event ≡ true → (d : ℕ) → d ≢ turns.caller_of event
+  lists_same : (event : TurnEvent O R) → turns.is_possible s.turns event ≡ true → (d : ℕ) → d ≢ turns.caller_of event
       → cells.caller_at (turns.effect s.turns event) d ≡ cells.caller_at s.turns d
   lists_same event possible d other =
       ap (λ t. cells.caller_at t d) (sym (turned s.turns event possible)) ∙ caller-happens s.turns event d other
 
-  cells_same : (event : TurnEvent) → turns.is_possible s.turns event ≡ true → (n : ℕ) → names (turns.cells_of event) n ≡ false
+  cells_same : (event : TurnEvent O R) → turns.is_possible s.turns event ≡ true → (n : ℕ) → names (turns.cells_of event) n ≡ false
       → cells.cell_at (turns.effect s.turns event) n ≡ cells.cell_at s.turns n
   cells_same event possible n unnamed =
       ap (λ t. cells.cell_at t n) (sym (turned s.turns event possible)) ∙ cell-happens s.turns event n unnamed
 
-  pub leaves_others : (event : Event L) → IsPossible F declared s event → LeavesOthers s (effect s event) (caller_of event) (cells_of event) (object_of s event)
+  pub leaves_others : (event : Event L O R) → IsPossible F declared s event → LeavesOthers s (effect s event) (caller_of event) (cells_of event) (object_of s event)
   leaves_others (AtPhases event) possible =
       let left = subst (λ t. phases.LeavesOthers s.phases t (phase_events.caller_of event) (phases.object_changed s.phases event)) (happened s.phases event possible.may.core)
       (others_stay s.phases event sound (turn_there s.phases sound (phase_events.caller_of event) possible.caller)) in

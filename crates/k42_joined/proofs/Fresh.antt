@@ -65,7 +65,7 @@ life_odd (suc objects) (suc o) p there lt =
     ap (λ n. get_or (first_lives (suc objects)) n 0) (omega arith) ∙ behind_at (o * 16 + (8 + p)) (first_lives objects)
     ∙ life_odd objects o p (omega (arith, there)) lt
 
-fresh_lives : (i n : ℕ) (x y : Cell) → i ≡ 0 → n ≡ 0 → x ≡ fresh_cell 0 → y ≡ fresh_cell 1 → AreOfLives i (ltb i n) x y
+fresh_lives : {O R : Type 0} (i n : ℕ) (x y : Cell O R) → i ≡ 0 → n ≡ 0 → x ≡ fresh_cell 0 → y ≡ fresh_cell 1 → AreOfLives i (ltb i n) x y
 fresh_lives i n x y zero_is none x_is y_is =
     subst (λ j. AreOfLives j (ltb j n) x y) (sym zero_is)
     (subst (λ m. AreOfLives 0 (ltb 0 m) x y) (sym none)
@@ -77,8 +77,8 @@ fresh_lives i n x y zero_is none x_is y_is =
       next = λ life. record { empty = λ no_hand. refl; begun = λ is. absurd (cc) };
     }))))
 
-module _ {S L P : Type 0} (F : Layouts S L P) (declared : List L) (callers : List ℕ) (plan : IsPlan F declared callers) where
-  abbrev s : Joined L
+module _ {S L P O R : Type 0} (F : Layouts S L P O R) (declared : List L) (callers : List ℕ) (plan : IsPlan F declared callers) where
+  abbrev s : Joined L O R
   s = fresh F declared callers
 
   objects_many : many_objects s ≡ length declared
@@ -105,8 +105,8 @@ module _ {S L P : Type 0} (F : Layouts S L P) (declared : List L) (callers : Lis
 
   cell_unlocked : (n : ℕ) → (cell s n).lock ≡ None
   cell_unlocked n =
-      ⊎_elim (λ there. ap (λ (x : Cell). x.lock) (cell_new n there))
-      (λ past. ap (λ (x : Cell). x.lock) (get_or_past s.turns.cells n (fresh_cell 0) (rw (length-map (first_lives (length declared)) fresh_cell, length-first_lives (length declared)) past)))
+      ⊎_elim (λ there. ap (λ (x : Cell O R). x.lock) (cell_new n there))
+      (λ past. ap (λ (x : Cell O R). x.lock) (get_or_past s.turns.cells n (fresh_cell 0) (rw (length-map (first_lives (length declared)) fresh_cell, length-first_lives (length declared)) past)))
       (cases_lt n (length declared * 16))
 
   few : many_procs s ≤ 8
@@ -152,14 +152,14 @@ module _ {S L P : Type 0} (F : Layouts S L P) (declared : List L) (callers : Lis
   -- no entry was drawn
   mine_none : (c : ℕ) → mine s c ≡ []
   mine_none c =
-      ⊎_elim (λ there. ap (λ (x : Caller). x.mine) (get_or-replicate (length callers) c fresh_caller fresh_caller there))
-      (λ past. ap (λ (x : Caller). x.mine) (get_or_past (replicate (length callers) fresh_caller) c fresh_caller (rw (length-replicate (length callers) fresh_caller) past)))
+      ⊎_elim (λ there. ap (λ (x : Caller O R). x.mine) (get_or-replicate (length callers) c fresh_caller fresh_caller there))
+      (λ past. ap (λ (x : Caller O R). x.mine) (get_or_past (replicate (length callers) fresh_caller) c fresh_caller (rw (length-replicate (length callers) fresh_caller) past)))
       (cases_lt c (length callers))
 
   kept_none : (c : ℕ) → kept_of s c ≡ nothing_kept
   kept_none c =
-      ⊎_elim (λ there. get_or-replicate (length callers) c nothing_kept nothing_kept there)
-      (λ past. get_or_past (replicate (length callers) nothing_kept) c nothing_kept (rw (length-replicate (length callers) nothing_kept) past))
+      ⊎_elim (λ there. get_or-replicate (length callers) c (nothing_kept {R = R}) (nothing_kept {R = R}) there)
+      (λ past. get_or_past (replicate (length callers) (nothing_kept {R = R})) c (nothing_kept {R = R}) (rw (length-replicate (length callers) (nothing_kept {R = R})) past))
       (cases_lt c (length callers))
 
   swap_none : (c : ℕ) → swap_of s c ≡ Idle
@@ -168,34 +168,34 @@ module _ {S L P : Type 0} (F : Layouts S L P) (declared : List L) (callers : Lis
       (λ past. ap (λ (x : Visitor). x.swap) (get_or_past s.phases.callers c fresh_visitor (rw callers_many past)))
       (cases_lt c (length callers))
 
-  none_in : (c : ℕ) (e : Entry) → In e (mine s c) → ⊥
-  none_in c e is = subst (λ (es : List Entry). In e es) (mine_none c) is
+  none_in : (c : ℕ) (e : Entry O R) → In e (mine s c) → ⊥
+  none_in c e is = subst (λ (es : List (Entry O R)). In e es) (mine_none c) is
 
   pub fresh_answered : AreAnswered s
   fresh_answered c there = record {
     kept = record {
       begun = λ o named. let none : None ≡ Some o = sym (ap named_by (swap_none c)) ∙ named in absurd (cc);
-      there = λ o begun. let none : None ≡ Some o = sym (ap (λ (k : Kept). k.begun) (kept_none c)) ∙ begun in absurd (cc);
-      found = λ answer is. let none : None ≡ Some answer = sym (ap (λ (k : Kept). k.found) (kept_none c)) ∙ is in absurd (cc);
+      there = λ o begun. let none : None ≡ Some o = sym (ap (λ (k : Kept R). k.begun) (kept_none c)) ∙ begun in absurd (cc);
+      found = λ answer is. let none : None ≡ Some answer = sym (ap (λ (k : Kept R). k.found) (kept_none c)) ∙ is in absurd (cc);
     };
     timely = λ before e after cut. absurd (no_split before e after (sym (mine_none c) ∙ cut));
     each = λ e is. absurd (none_in c e is);
-    found = λ o answer begun is. let none : None ≡ Some answer = sym (ap (λ (k : Kept). k.found) (kept_none c)) ∙ is in absurd (cc);
+    found = λ o answer begun is. let none : None ≡ Some answer = sym (ap (λ (k : Kept R). k.found) (kept_none c)) ∙ is in absurd (cc);
     drawn = λ o named. let none : None ≡ Some o = sym (ap named_by (swap_none c)) ∙ named in absurd (cc);
   } where
-    no_split : (before : List Entry) (e : Entry) (after : List Entry) → [] ≡ before ++ e ∷ after → ⊥
+    no_split : (before : List (Entry O R)) (e : Entry O R) (after : List (Entry O R)) → [] ≡ before ++ e ∷ after → ⊥
     no_split [] e after same = cc
     no_split (f ∷ before) e after same = cc
 
   -- the rows with which the objects begin
-  abbrev first_chain : L → Chain L P
+  abbrev first_chain : L → Chain L P O R
   first_chain layout = record {
     past = [];
     row = record { layout = layout; start = empty_row (F.ways_of layout) (F.tag_of layout) F.procs; entries = [] };
   }
 
   history_none : (o p : ℕ) → o < many_objects s → p < F.procs → history_in s o 0 p ≡ []
-  history_none o p named lt = ap (λ (x : Cell). get_or (x.past ++ x.history ∷ []) 0 []) (cell_even o p named (rw procs_many lt))
+  history_none o p named lt = ap (λ (x : Cell O R). get_or (x.past ++ x.history ∷ []) 0 []) (cell_even o p named (rw procs_many lt))
 
   module _ (o : ℕ) (layout : L) (declares : slice_get declared o ≡ Some layout) where
     named : o < many_objects s
@@ -238,15 +238,15 @@ module _ {S L P : Type 0} (F : Layouts S L P) (declared : List L) (callers : Lis
       one_of zero a b is = same_Some a b is
       one_of (suc n) a b is = absurd (cc)
 
-  abbrev chains : List (Chain L P)
+  abbrev chains : List (Chain L P O R)
   chains = map first_chain declared
 
-  no_list : (e : Entry) → InSome (lists_of s) e → ⊥
+  no_list : (e : Entry O R) → InSome (lists_of s) e → ⊥
   no_list e is =
       let at = at_list s.turns.callers is.place is.list is.there in
-      none_in is.place e (subst (λ (es : List Entry). In e es) (sym at.1) is.has)
+      none_in is.place e (subst (λ (es : List (Entry O R)). In e es) (sym at.1) is.has)
 
-  chain_is : (o : ℕ) (x : Chain L P) → slice_get chains o ≡ Some x → (layout : L) × (slice_get declared o ≡ Some layout) × (first_chain layout ≡ x)
+  chain_is : (o : ℕ) (x : Chain L P O R) → slice_get chains o ≡ Some x → (layout : L) × (slice_get declared o ≡ Some layout) × (first_chain layout ≡ x)
   chain_is o x is = by_layout (slice_get declared o) refl (sym (slice_get-map first_chain declared o) ∙ is) where
     by_layout : (found : Option L) → slice_get declared o ≡ found → option_map first_chain found ≡ Some x
         → (layout : L) × (slice_get declared o ≡ Some layout) × (first_chain layout ≡ x)
@@ -267,10 +267,10 @@ module _ {S L P : Type 0} (F : Layouts S L P) (declared : List L) (callers : Lis
       placed = λ e is pass. absurd (no_list e is);
       given = λ o x e is inside pass.
           let found = chain_is o x is in
-          let long : length x.past ≡ 0 = sym (ap (λ (y : Chain L P). length y.past) found.2) in
+          let long : length x.past ≡ 0 = sym (ap (λ (y : Chain L P O R). length y.past) found.2) in
           let le = inside.2 in
           let first : inside.0 ≡ 0 = omega (arith, long, le) in
-          let none : In e [] = subst (λ (h : List Entry). In e h) (ap (λ row. history_in s o row inside.1) first ∙ history_none o inside.1 (rw objects_many (slice_get_within declared o found.0 found.1)) inside.3) inside.4 in
+          let none : In e [] = subst (λ (h : List (Entry O R)). In e h) (ap (λ row. history_in s o row inside.1) first ∙ history_none o inside.1 (rw objects_many (slice_get_within declared o found.0 found.1)) inside.3) inside.4 in
           absurd none;
     };
   } where

@@ -40,24 +40,24 @@ use Rattle.k42_joined.proofs.RowsPhases.{phases_keep_rows}
 
 -- cells that the caller holds are there
 
-held_all : (s : Turns) (c : ℕ) (test : ℕ → Bool) → ((n : ℕ) → test n ≡ true → holds s c n ≡ true) → (cells : List ℕ) → list_all test cells ≡ true
+held_all : {O R : Type 0} (s : Turns O R) (c : ℕ) (test : ℕ → Bool) → ((n : ℕ) → test n ≡ true → holds s c n ≡ true) → (cells : List ℕ) → list_all test cells ≡ true
     → AllByRecursion (λ n. n < length s.cells) cells
 held_all s c test held [] all = tt
 held_all s c test held (n ∷ cells) all =
     let parts = and_parts (test n) (list_all test cells) all in
     (held_there s n c (from_is_caller (cell_at s n).lock c (held n parts.0)), held_all s c test held cells parts.1)
 
-open_held : (s : Turns) (c n : ℕ) → has_open s c n ≡ true → holds s c n ≡ true
+open_held : {O R : Type 0} (s : Turns O R) (c n : ℕ) → has_open s c n ≡ true → holds s c n ≡ true
 open_held s c n is = (and_parts (holds s c n) _ (and_parts (has_taken s c n) _ is).0).0
 
-begin_held : (s : Turns) (c n : ℕ) → has_beginning s c n ≡ true → holds s c n ≡ true
+begin_held : {O R : Type 0} (s : Turns O R) (c n : ℕ) → has_beginning s c n ≡ true → holds s c n ≡ true
 begin_held s c n is = (and_parts (holds s c n) _ (and_parts (has_taken s c n) _ is).0).0
 
 all_more : (P : ℕ → Type 0) (xs ys : List ℕ) → AllByRecursion P xs → AllByRecursion P ys → AllByRecursion P (xs ++ ys)
 all_more P [] ys left right = right
 all_more P (x ∷ xs) ys left right = (left.0, all_more P xs ys left.1 right)
 
-module _ {S L P : Type 0} (F : Layouts S L P) (laws : AreLaws F) (declared : List L) (s : Joined L) (sound : IsSound F declared s) where
+module _ {S L P O R : Type 0} (F : Layouts S L P O R) (laws : AreLaws F) (declared : List L) (s : Joined L O R) (sound : IsSound F declared s) where
   -- an event of tables and swaps
   phases_keep : (event : phase_events.Event) → phase_events.caller_of event < many_callers s → MayAtPhases F declared s event
       → IsSound F declared (effect s (AtPhases event))
@@ -71,7 +71,7 @@ module _ {S L P : Type 0} (F : Layouts S L P) (laws : AreLaws F) (declared : Lis
     answers = phases_keep_answers F laws declared s sound.phases sound.cells.turns sound.cells.locks sound.cells.rows sound.answers event there may;
   }
 
-  turns_keep : (event : TurnEvent) → turn_events.caller_of event < many_callers s → AllByRecursion (λ n. n < length s.turns.cells) (turn_events.cells_of event)
+  turns_keep : (event : TurnEvent O R) → turn_events.caller_of event < many_callers s → AllByRecursion (λ n. n < length s.turns.cells) (turn_events.cells_of event)
       → turn_events.is_possible s.turns event ≡ true → turns.IsSound (turn_events.effect s.turns event)
   turns_keep event there range possible =
       keeps_effect s.turns event sound.cells.turns
@@ -85,7 +85,7 @@ module _ {S L P : Type 0} (F : Layouts S L P) (laws : AreLaws F) (declared : Lis
       omega (arith, object, long)
 
   -- an event of cells
-  cells_keep : (event : TurnEvent) → turn_events.caller_of event < many_callers s → MayAtCells F declared s event
+  cells_keep : (event : TurnEvent O R) → turn_events.caller_of event < many_callers s → MayAtCells F declared s event
       → IsSound F declared (effect s (AtCells event))
   cells_keep (Lock c n) there may =
       let in_range = touched_there c n may.beside in
@@ -167,7 +167,7 @@ module _ {S L P : Type 0} (F : Layouts S L P) (laws : AreLaws F) (declared : Lis
   cells_keep (Hand c from onto e) there may = absurd may.beside
 
   -- a hand
-  hand_keep : (c : ℕ) (from onto : List ℕ) (layout : L) (e : Entry) → c < many_callers s → MayHandOn F declared s c from onto layout e
+  hand_keep : (c : ℕ) (from onto : List ℕ) (layout : L) (e : Entry O R) → c < many_callers s → MayHandOn F declared s c from onto layout e
       → IsSound F declared (effect s (HandWith c from onto layout e))
   hand_keep c from onto layout e there may =
       let core = core_hand s.turns c from onto e may.core in
@@ -186,7 +186,7 @@ module _ {S L P : Type 0} (F : Layouts S L P) (laws : AreLaws F) (declared : Lis
             (ap is_call may.beside.act ∙ laws.asks layout) inside may.beside.moved may.beside.present may.beside.answer;
       }
 
-  pub joined_keeps : (event : Event L) → IsPossible F declared s event → IsSound F declared (effect s event)
+  pub joined_keeps : (event : Event L O R) → IsPossible F declared s event → IsSound F declared (effect s event)
   joined_keeps (AtPhases event) possible = phases_keep event possible.caller possible.may
   joined_keeps (AtCells event) possible = cells_keep event possible.caller possible.may
   joined_keeps (HandWith c from onto layout e) possible = hand_keep c from onto layout e possible.caller possible.may

@@ -24,7 +24,7 @@ use Rattle.k42_joined.proofs.CellChanges.{cell_at-else, cell_at-here}
 use Rattle.k42_joined.proofs.LocksLives.{IsSameLife, same_life, lives_kept}
 
 -- what an event of cells does that neither closes a cell nor begins a life
-pub record LeavesLives {L : Type 0} (s : Joined L) (t : Turns) (keeps : List Kept) : Type 0 where
+pub record LeavesLives {L O R : Type 0} (s : Joined L O R) (t : Turns O R) (keeps : List (Kept R)) : Type 0 where
   pub callers : length t.callers ≡ length s.turns.callers
   pub cells : length t.cells ≡ length s.turns.cells
   pub kept : length keeps ≡ length s.kept
@@ -35,7 +35,7 @@ pub record LeavesLives {L : Type 0} (s : Joined L) (t : Turns) (keeps : List Kep
       → (cell_at t (cell_of o (incarnation s o + 1) p)).history ≡ (cell_in s o (incarnation s o + 1) p).history
   pub held : (n c : ℕ) → (cell_at t n).lock ≡ Some c → MayTouch s c n
 
-pub lives_left : {L : Type 0} (s : Joined L) (t : Turns) (kept : List Kept) → AreLocked s → LeavesLives s t kept
+pub lives_left : {L O R : Type 0} (s : Joined L O R) (t : Turns O R) (kept : List (Kept R)) → AreLocked s → LeavesLives s t kept
     → AreLocked (record s { turns = t; kept = kept })
 lives_left s t kept locked leaves = record {
   many = record {
@@ -59,25 +59,25 @@ lives_left s t kept locked leaves = record {
 }
 
 -- a cell of which nothing but its lock and its place is changed
-pub record IsSameTold (x y : Cell) : Type 0 where
+pub record IsSameTold {O R : Type 0} (x y : Cell O R) : Type 0 where
   pub closed : y.closed ≡ x.closed
   pub life : y.life ≡ x.life
   pub history : y.history ≡ x.history
   pub past : y.past ≡ x.past
 
-same_told : (x : Cell) → IsSameTold x x
+same_told : {O R : Type 0} (x : Cell O R) → IsSameTold x x
 same_told x = record { closed = refl; life = refl; history = refl; past = refl }
 
-told_life : (x y : Cell) → IsSameTold x y → IsSameLife x y
+told_life : {O R : Type 0} (x y : Cell O R) → IsSameTold x y → IsSameLife x y
 told_life x y same = record { life = same.life; closed = same.closed; past = ap length same.past }
 
-pub told_at : (changed : Cell → Cell) → ((x : Cell) → IsSameTold x (changed x)) → (t : Turns) (n m : ℕ)
+pub told_at : {O R : Type 0} (changed : Cell O R → Cell O R) → ((x : Cell O R) → IsSameTold x (changed x)) → (t : Turns O R) (n m : ℕ)
     → IsSameTold (cell_at t m) (cell_at (change_cell changed t n) m)
 told_at changed same t n m = get_or-set_related IsSameTold same_told t.cells n m (changed (cell_at t n)) (fresh_cell 0) (same (cell_at t n))
 
-module _ {L : Type 0} (s : Joined L) (locked : AreLocked s) where
+module _ {L O R : Type 0} (s : Joined L O R) (locked : AreLocked s) where
   -- one cell's lock or place, and perhaps a caller's list of what it holds
-  one_cell : (changed : Cell → Cell) → ((x : Cell) → IsSameTold x (changed x)) → (n : ℕ) (callers : List Caller)
+  one_cell : (changed : Cell O R → Cell O R) → ((x : Cell O R) → IsSameTold x (changed x)) → (n : ℕ) (callers : List (Caller O R))
       → length callers ≡ length s.turns.callers
       → ((m c : ℕ) → (cell_at (change_cell changed s.turns n) m).lock ≡ Some c → MayTouch s c m)
       → AreLocked (record s { turns = record { cells = (change_cell changed s.turns n).cells; callers = callers } })
@@ -92,11 +92,11 @@ module _ {L : Type 0} (s : Joined L) (locked : AreLocked s) where
       })
 
   -- the lock of each cell stays
-  kept_lock : (changed : Cell → Cell) → ((x : Cell) → (changed x).lock ≡ x.lock) → (n m c : ℕ)
+  kept_lock : (changed : Cell O R → Cell O R) → ((x : Cell O R) → (changed x).lock ≡ x.lock) → (n m c : ℕ)
       → (cell_at (change_cell changed s.turns n) m).lock ≡ Some c → MayTouch s c m
   kept_lock changed same n m c lock =
       locked.held m c
-      (sym (get_or-set_related (λ (x y : Cell). y.lock ≡ x.lock) (λ x. refl) s.turns.cells n m (changed (cell s n)) (fresh_cell 0) (same (cell s n))) ∙ lock)
+      (sym (get_or-set_related (λ (x y : Cell O R). y.lock ≡ x.lock) (λ x. refl) s.turns.cells n m (changed (cell s n)) (fresh_cell 0) (same (cell s n))) ∙ lock)
 
   pub take_keeps : (c n : ℕ) → AreLocked (record s { turns = turns.effect s.turns (Take c n) })
   take_keeps c n =
@@ -109,7 +109,7 @@ module _ {L : Type 0} (s : Joined L) (locked : AreLocked s) where
       (kept_lock cell_put (λ x. refl) n)
 
   -- another cell than the one whose lock is changed
-  else_lock : (changed : Cell → Cell) (n m c : ℕ) → m ≢ n → (cell_at (change_cell changed s.turns n) m).lock ≡ Some c → MayTouch s c m
+  else_lock : (changed : Cell O R → Cell O R) (n m c : ℕ) → m ≢ n → (cell_at (change_cell changed s.turns n) m).lock ≡ Some c → MayTouch s c m
   else_lock changed n m c other lock =
       locked.held m c (sym (ap (λ x. x.lock) (get_or-set_other s.turns.cells n m (changed (cell s n)) (fresh_cell 0) other)) ∙ lock)
 
@@ -158,7 +158,7 @@ module _ {L : Type 0} (s : Joined L) (locked : AreLocked s) where
         held = λ n d lock. locked.held n d lock;
       })
 
-  pub alone_keeps : (c : ℕ) (entry : Entry) (abandons : Bool)
+  pub alone_keeps : (c : ℕ) (entry : Entry O R) (abandons : Bool)
       → AreLocked (record s { turns = turns.effect s.turns (Alone c entry); kept = kept_drawn s c abandons })
   alone_keeps c entry abandons =
       lives_left s (turns.effect s.turns (Alone c entry)) (kept_drawn s c abandons) locked (record {
@@ -172,26 +172,26 @@ module _ {L : Type 0} (s : Joined L) (locked : AreLocked s) where
 
 -- what is told to cells leaves their lives and their locks
 
-told_lives : (entry : Entry) (t : Turns) (cells : List ℕ) (n : ℕ) → IsSameLife (cell_at t n) (cell_at (change_cells (cell_told entry) t cells) n)
+told_lives : {O R : Type 0} (entry : Entry O R) (t : Turns O R) (cells : List ℕ) (n : ℕ) → IsSameLife (cell_at t n) (cell_at (change_cells (cell_told entry) t cells) n)
 told_lives entry t [] n = same_life (cell_at t n)
 told_lives entry t (m ∷ cells) n =
     let first = get_or-set_related IsSameLife same_life t.cells m n (cell_told entry (cell_at t m)) (fresh_cell 0) (record { life = refl; closed = refl; past = refl }) in
     let rest = told_lives entry (change_cell (cell_told entry) t m) cells n in
     record { life = rest.life ∙ first.life; closed = rest.closed ∙ first.closed; past = rest.past ∙ first.past }
 
-pub kept_locks : (changed : Cell → Cell) → ((x : Cell) → (changed x).lock ≡ x.lock) → (t : Turns) (cells : List ℕ) (n : ℕ)
+pub kept_locks : {O R : Type 0} (changed : Cell O R → Cell O R) → ((x : Cell O R) → (changed x).lock ≡ x.lock) → (t : Turns O R) (cells : List ℕ) (n : ℕ)
     → (cell_at (change_cells changed t cells) n).lock ≡ (cell_at t n).lock
 kept_locks changed same t [] n = refl
-kept_locks changed same t (m ∷ cells) n =
+kept_locks {O} {R} changed same t (m ∷ cells) n =
     kept_locks changed same (change_cell changed t m) cells n
-    ∙ get_or-set_related (λ (x y : Cell). y.lock ≡ x.lock) (λ x. refl) t.cells m n (changed (cell_at t m)) (fresh_cell 0) (same (cell_at t m))
+    ∙ get_or-set_related (λ (x y : Cell O R). y.lock ≡ x.lock) (λ x. refl) t.cells m n (changed (cell_at t m)) (fresh_cell 0) (same (cell_at t m))
 
 -- the cells are of the present row of an object
-abbrev pub AreOfRow : {L : Type 0} → Joined L → ℕ → List ℕ → Type 0
+abbrev pub AreOfRow : {L O R : Type 0} → Joined L O R → ℕ → List ℕ → Type 0
 AreOfRow s o cells = (n : ℕ) → names cells n ≡ true → IsAmong o (incarnation s o) 0 (many_procs s) n
 
 -- so none of them is of a next row
-pub not_next : {L : Type 0} (s : Joined L) → many_procs s ≤ 8 → (o : ℕ) (cells : List ℕ) → AreOfRow s o cells
+pub not_next : {L O R : Type 0} (s : Joined L O R) → many_procs s ≤ 8 → (o : ℕ) (cells : List ℕ) → AreOfRow s o cells
     → (q p : ℕ) → p < many_procs s → (b : Bool) → names cells (cell_of q (incarnation s q + 1) p) ≡ b → b ≡ false
 not_next s few o cells are q p within true named =
     let is = are (cell_of q (incarnation s q + 1) p) named in
@@ -201,8 +201,8 @@ not_next s few o cells are q p within true named =
     absurd (omega (arith, parity))
 not_next s few o cells are q p within false named = refl
 
-module _ {L : Type 0} (s : Joined L) (locked : AreLocked s) where
-  pub draw_keeps : (c o : ℕ) (cells : List ℕ) (entry : Entry) → AreOfRow s o cells
+module _ {L O R : Type 0} (s : Joined L O R) (locked : AreLocked s) where
+  pub draw_keeps : (c o : ℕ) (cells : List ℕ) (entry : Entry O R) → AreOfRow s o cells
       → AreLocked (record s { turns = turns.effect s.turns (Draw c cells entry); kept = kept_drawn s c false })
   draw_keeps c o cells entry are =
       let drawing = change_caller (caller_drawn entry) s.turns c in

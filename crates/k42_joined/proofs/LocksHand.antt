@@ -60,14 +60,14 @@ each_named test (m ∷ cells) n all named = by_test (eqb m n) refl named (λ all
   by_test true e further rest = let same : m ≡ n = grind (arith, nat_tests, e) in subst (λ k. test k ≡ true) same parts.0
   by_test false e further rest = rest parts.1 further
 
-begun_lock : (entry : Entry) (x : Cell) → (cell_begun entry x).lock ≡ x.lock
+begun_lock : {O R : Type 0} (entry : Entry O R) (x : Cell O R) → (cell_begun entry x).lock ≡ x.lock
 begun_lock entry x = go x.closed where
   go : (closed : Bool) → (cond closed (cell_told entry (cell_opened x)) (cell_told entry x)).lock ≡ x.lock
   go true = refl
   go false = refl
 
 -- what the core asks of a hand
-pub record IsCoreHand (s : Turns) (c : ℕ) (from onto : List ℕ) (entry : Entry) : Type 0 where
+pub record IsCoreHand {O R : Type 0} (s : Turns O R) (c : ℕ) (from onto : List ℕ) (entry : Entry O R) : Type 0 where
   pub once_from : names_once from ≡ true
   pub once_onto : names_once onto ≡ true
   pub open_from : list_all (has_open s c) from ≡ true
@@ -92,7 +92,7 @@ once_left (n ∷ cells) others once =
     let unnamed : names cells n ≡ false = unnamed_front cells others n (names cells n) refl (not-true (names (cells ++ others) n) parts.0) in
     rw (unnamed, once_left cells others parts.1) refl
 
-pub core_hand : (s : Turns) (c : ℕ) (from onto : List ℕ) (entry : Entry) → turns.is_possible s (Hand c from onto entry) ≡ true
+pub core_hand : {O R : Type 0} (s : Turns O R) (c : ℕ) (from onto : List ℕ) (entry : Entry O R) → turns.is_possible s (Hand c from onto entry) ≡ true
     → IsCoreHand s c from onto entry
 core_hand s c from onto entry can =
     let third = and_parts (names_once (from ++ onto) && list_all (has_open s c) from && list_all (has_beginning s c) onto) (turns.is_next s c (from ++ onto) entry) can in
@@ -118,10 +118,10 @@ apart_row procs o j q k p few within apart = by_test (names (row_cells procs o j
       absurd (⊎_elim (λ other. other (sym one.object)) (λ other. other (sym one.parity)) apart)
   by_test false named = refl
 
-module _ {S L P : Type 0} (F : Layouts S L P) (declared : List L) (s : Joined L) (locked : AreLocked s)
-    (c : ℕ) (from onto : List ℕ) (layout : L) (entry : Entry) (may : MayHandOn F declared s c from onto layout entry)
+module _ {S L P O R : Type 0} (F : Layouts S L P O R) (declared : List L) (s : Joined L O R) (locked : AreLocked s)
+    (c : ℕ) (from onto : List ℕ) (layout : L) (entry : Entry O R) (may : MayHandOn F declared s c from onto layout entry)
     (named : entry.object < many_objects s) where
-  abbrev t : Joined L
+  abbrev t : Joined L O R
   t = effect s (HandWith c from onto layout entry)
 
   abbrev o : ℕ
@@ -146,10 +146,10 @@ module _ {S L P : Type 0} (F : Layouts S L P) (declared : List L) (s : Joined L)
       (λ more. let is = lt-ltb i (many_hands s o) (omega (arith, more)) in let not = may.beside.once in absurd (cc))
       (locked.counted o named).ahead
 
-  abbrev drawing : Turns
+  abbrev drawing : Turns O R
   drawing = change_caller (caller_drawn entry) s.turns c
 
-  abbrev begun : Turns
+  abbrev begun : Turns O R
   begun = change_cells (cell_begun entry) drawing onto
 
   many_begun : length begun.cells ≡ length s.turns.cells
@@ -204,11 +204,11 @@ module _ {S L P : Type 0} (F : Layouts S L P) (declared : List L) (s : Joined L)
   -- a cell that is not begun has the life that it had
   same_life_else : (n : ℕ) → names onto n ≡ false → (cell_at t.turns n).life ≡ (cell s n).life
   same_life_else n not = closed_life begun from n ∙ ap (λ x. x.life) (cell_at-else (cell_begun entry) drawing onto n not) where
-    closed_life : (u : Turns) (cells : List ℕ) (n : ℕ) → (cell_at (change_cells cell_closed u cells) n).life ≡ (cell_at u n).life
+    closed_life : (u : Turns O R) (cells : List ℕ) (n : ℕ) → (cell_at (change_cells cell_closed u cells) n).life ≡ (cell_at u n).life
     closed_life u [] n = refl
     closed_life u (m ∷ cells) n =
         closed_life (change_cell cell_closed u m) cells n
-        ∙ get_or-set_related (λ (x y : Cell). y.life ≡ x.life) (λ x. refl) u.cells m n (cell_closed (cell_at u m)) (fresh_cell 0) refl
+        ∙ get_or-set_related (λ (x y : Cell O R). y.life ≡ x.life) (λ x. refl) u.cells m n (cell_closed (cell_at u m)) (fresh_cell 0) refl
 
   held_by : (n d : ℕ) → (cell s n).lock ≡ Some d → (b : Bool) → names onto n ≡ b
       → may_touch s.phases d (object_of n) (cell_at t.turns n).life ≡ true

@@ -9,22 +9,22 @@ use Rattle.turn_core.specs.Events.{cell_told, cell_opened, cell_begun, cell_clos
 use Rattle.k42_joined.specs.Locks.{other_life, is_closed_in, IsOfLife, AreOfLives}
 
 -- a cell of the life of another, closed as it
-pub record IsSameLife (x y : Cell) : Type 0 where
+pub record IsSameLife {O R : Type 0} (x y : Cell O R) : Type 0 where
   pub life : y.life ≡ x.life
   pub closed : y.closed ≡ x.closed
   pub past : length y.past ≡ length x.past
 
-pub same_life : (x : Cell) → IsSameLife x x
+pub same_life : {O R : Type 0} (x : Cell O R) → IsSameLife x x
 same_life x = record { life = refl; closed = refl; past = refl }
 
-of_life : (i : ℕ) (handed : Bool) (life : ℕ) (x y : Cell) → IsSameLife x y → IsOfLife i handed life x → IsOfLife i handed life y
+of_life : {O R : Type 0} (i : ℕ) (handed : Bool) (life : ℕ) (x y : Cell O R) → IsSameLife x y → IsOfLife i handed life x → IsOfLife i handed life y
 of_life i handed life x y same is = record {
   life = same.life ∙ is.life;
   closed = same.closed ∙ is.closed;
   past = same.past ∙ is.past;
 }
 
-pub lives_kept : (i : ℕ) (handed : Bool) (x y x' y' : Cell) → IsSameLife x x' → IsSameLife y y' → y'.history ≡ y.history
+pub lives_kept : {O R : Type 0} (i : ℕ) (handed : Bool) (x y x' y' : Cell O R) → IsSameLife x x' → IsSameLife y y' → y'.history ≡ y.history
     → AreOfLives i handed x y → AreOfLives i handed x' y'
 lives_kept i handed x y x' y' same same' history are = record {
   present = of_life i handed i x x' same are.present;
@@ -37,7 +37,7 @@ lives_kept i handed x y x' y' same same' history are = record {
 }
 
 -- the next incarnation
-pub lives_turned : (i : ℕ) (x y : Cell) → AreOfLives i true x y → AreOfLives (i + 1) false y x
+pub lives_turned : {O R : Type 0} (i : ℕ) (x y : Cell O R) → AreOfLives i true x y → AreOfLives (i + 1) false y x
 lives_turned i x y are =
     let own : other_life i true ≡ i + 1 = grind (arith, nat_tests) in
     let back : other_life (i + 1) false ≡ i = grind (arith, nat_tests) in
@@ -54,13 +54,13 @@ lives_turned i x y are =
     }
 
 -- a cell before its hand: at first it is open and was not drawn at, and later it is closed in a former life
-pub record IsWaiting (i : ℕ) (y : Cell) (closed : Bool) : Type 0 where
+pub record IsWaiting {O R : Type 0} (i : ℕ) (y : Cell O R) (closed : Bool) : Type 0 where
   pub life : y.life + cond closed 2 0 ≡ i + 1
   pub closed_is : y.closed ≡ closed
   pub past : length y.past + cond closed 1 0 ≡ (i + 1) / 2
   pub history : closed ≡ false → y.history ≡ []
 
-pub waiting : (i : ℕ) (x y : Cell) → AreOfLives i false x y → IsWaiting i y (not (eqb i 0))
+pub waiting : {O R : Type 0} (i : ℕ) (x y : Cell O R) → AreOfLives i false x y → IsWaiting i y (not (eqb i 0))
 waiting i x y are = by_test (eqb i 0) refl where
   by_test : (b : Bool) → eqb i 0 ≡ b → IsWaiting i y (not b)
   by_test true e =
@@ -89,13 +89,13 @@ waiting i x y are = by_test (eqb i 0) refl where
       }
 
 -- a cell whose next life was begun
-pub record IsBegun (i : ℕ) (e : Entry) (x : Cell) : Type 0 where
+pub record IsBegun {O R : Type 0} (i : ℕ) (e : Entry O R) (x : Cell O R) : Type 0 where
   pub life : x.life ≡ i + 1
   pub closed : x.closed ≡ false
   pub past : length x.past ≡ (i + 1) / 2
   pub history : x.history ≡ e ∷ []
 
-begun_as : (i : ℕ) (y : Cell) (e : Entry) (closed : Bool) → IsWaiting i y closed
+begun_as : {O R : Type 0} (i : ℕ) (y : Cell O R) (e : Entry O R) (closed : Bool) → IsWaiting i y closed
     → IsBegun i e (cond closed (cell_told e (cell_opened y)) (cell_told e y))
 begun_as i y e true is =
     let life = is.life in
@@ -112,14 +112,14 @@ begun_as i y e false is =
       history = ap (λ history. history ++ e ∷ []) (is.history refl);
     }
 
-pub cell_begins : (i : ℕ) (x y : Cell) (e : Entry) → AreOfLives i false x y → IsBegun i e (cell_begun e y)
+pub cell_begins : {O R : Type 0} (i : ℕ) (x y : Cell O R) (e : Entry O R) → AreOfLives i false x y → IsBegun i e (cell_begun e y)
 cell_begins i x y e are =
     let is = waiting i x y are in
     subst (λ b. IsBegun i e (cond b (cell_told e (cell_opened y)) (cell_told e y))) (sym is.closed_is)
     (begun_as i y e (not (eqb i 0)) is)
 
 -- the hand
-pub lives_handed : (i : ℕ) (x y : Cell) (e : Entry) → e.answer ≡ Swapped (i + 1) → AreOfLives i false x y
+pub lives_handed : {O R : Type 0} (i : ℕ) (x y : Cell O R) (e : Entry O R) → e.answer ≡ Swapped (i + 1) → AreOfLives i false x y
     → AreOfLives i true (cell_closed x) (cell_begun e y)
 lives_handed i x y e answer are =
     let begun = cell_begins i x y e are in

@@ -36,18 +36,18 @@ none_named [] n none named = cc
 none_named (m ∷ cells) n none named = cc
 
 -- a cell that a caller holds is there, and in the caller's list
-pub held_there : (t : Turns) (n c : ℕ) → (cell_at t n).lock ≡ Some c → n < length t.cells
+pub held_there : {O R : Type 0} (t : Turns O R) (n c : ℕ) → (cell_at t n).lock ≡ Some c → n < length t.cells
 held_there t n c lock =
     ⊎_elim (λ there. there) (λ past. absurd (none (get_or_past t.cells n (fresh_cell 0) past))) (cases_lt n (length t.cells))
   where
     none : cell_at t n ≡ fresh_cell 0 → ⊥
     none same = let is : None ≡ Some c = sym (ap (λ x. x.lock) same) ∙ lock in cc
 
-pub held_listed : (t : Turns) → turns.IsSound t → (n c : ℕ) → (cell_at t n).lock ≡ Some c → names (held_by t.callers c) n ≡ true
+pub held_listed : {O R : Type 0} (t : Turns O R) → turns.IsSound t → (n c : ℕ) → (cell_at t n).lock ≡ Some c → names (held_by t.callers c) n ≡ true
 held_listed t sound n c lock =
     (sound.cells n (cell_at t n) (slice_get-get_or t.cells n (fresh_cell 0) (held_there t n c lock))).held c lock
 
-module _ {S L P : Type 0} (F : Layouts S L P) (declared : List L) (s : Joined L)
+module _ {S L P O R : Type 0} (F : Layouts S L P O R) (declared : List L) (s : Joined L O R)
     (sound : phases.IsSound s.phases) (turns_sound : turns.IsSound s.turns) (locked : AreLocked s) where
   -- where an event asks it, its caller holds no cell
   released : (event : Event) → releases event ≡ true → may_at_phases s F.tag_of event ≡ true
@@ -66,7 +66,7 @@ module _ {S L P : Type 0} (F : Layouts S L P) (declared : List L) (s : Joined L)
   as_many_kept event = refl
 
   module _ (event : Event) (there : caller_of event < many_callers s) (may : MayAtPhases F declared s event) where
-    abbrev t : Joined L
+    abbrev t : Joined L O R
     t = effect s (AtPhases event)
 
     still_many : AreAsMany t
@@ -115,7 +115,7 @@ module _ {S L P : Type 0} (F : Layouts S L P) (declared : List L) (s : Joined L)
     abbrev q : ℕ
     q = object_named (swap_of s c)
 
-    abbrev u : Joined L
+    abbrev u : Joined L O R
     u = effect s (AtPhases (TurnOver c tag))
 
     pub turned_handed : is_handed s q ≡ true

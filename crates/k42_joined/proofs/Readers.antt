@@ -25,39 +25,39 @@ use Rattle.k42_joined.proofs.PhaseSteps.{object_after, only_its_caller}
 use Rattle.k42_joined.proofs.RowsPhases.{same_read}
 use Rattle.k42_joined.proofs.SafeStates.{read_row_kept}
 
-module _ {S L P : Type 0} (F : Layouts S L P) (laws : AreLaws F) (declared : List L) where
+module _ {S L P O R : Type 0} (F : Layouts S L P O R) (laws : AreLaws F) (declared : List L) where
   -- no number falls by a possible event
-  freed_rises : (s : Joined L) (event : Event L) → IsPossible F declared s event → (o : ℕ) → (object s o).freed ≤ (object (effect s event) o).freed
+  freed_rises : (s : Joined L O R) (event : Event L O R) → IsPossible F declared s event → (o : ℕ) → (object s o).freed ≤ (object (effect s event) o).freed
   freed_rises s (AtPhases event) possible o = ((object_after s.phases event possible.may.core).goes o).freed
   freed_rises s (AtCells event) possible o = le_refl (object s o).freed
   freed_rises s (HandWith c from onto layout e) possible o = le_refl (object s o).freed
 
-  hands_rise : (s : Joined L) (event : Event L) → (o : ℕ) → many_hands s o ≤ many_hands (effect s event) o
+  hands_rise : (s : Joined L O R) (event : Event L O R) → (o : ℕ) → many_hands s o ≤ many_hands (effect s event) o
   hands_rise s (AtPhases event) o = le_refl (many_hands s o)
   hands_rise s (AtCells event) o = le_refl (many_hands s o)
   hands_rise s (HandWith c from onto layout e) o =
       get_or-set_related (λ (xs ys : List L). length xs ≤ length ys) (λ xs. le_refl (length xs)) s.hands e.object o (layout ∷ layouts_of s e.object) []
       (omega arith)
 
-  pub freed_never_falls : (events : List (Event L)) (s t : Joined L) → Leads F declared events s t → (o : ℕ) → (object s o).freed ≤ (object t o).freed
-  freed_never_falls [] s t leads o = subst (λ (u : Joined L). (object s o).freed ≤ (object u o).freed) (sym leads) (le_refl (object s o).freed)
+  pub freed_never_falls : (events : List (Event L O R)) (s t : Joined L O R) → Leads F declared events s t → (o : ℕ) → (object s o).freed ≤ (object t o).freed
+  freed_never_falls [] s t leads o = subst (λ (u : Joined L O R). (object s o).freed ≤ (object u o).freed) (sym leads) (le_refl (object s o).freed)
   freed_never_falls (event ∷ events) s t leads o =
       le_trans (freed_rises s event leads.0 o) (freed_never_falls events (effect s event) t leads.1 o)
 
-  hands_never_fall : (events : List (Event L)) (s t : Joined L) → Leads F declared events s t → (o : ℕ) → many_hands s o ≤ many_hands t o
-  hands_never_fall [] s t leads o = subst (λ (u : Joined L). many_hands s o ≤ many_hands u o) (sym leads) (le_refl (many_hands s o))
+  hands_never_fall : (events : List (Event L O R)) (s t : Joined L O R) → Leads F declared events s t → (o : ℕ) → many_hands s o ≤ many_hands t o
+  hands_never_fall [] s t leads o = subst (λ (u : Joined L O R). many_hands s o ≤ many_hands u o) (sym leads) (le_refl (many_hands s o))
   hands_never_fall (event ∷ events) s t leads o =
       le_trans (hands_rise s event o) (hands_never_fall events (effect s event) t leads.1 o)
 
   -- a row that was freed is not freed again
-  freed_once : (events : List (Event L)) (s t : Joined L) (event : Event L) (o i : ℕ) → Leads F declared events s t → i < (object s o).freed
+  freed_once : (events : List (Event L O R)) (s t : Joined L O R) (event : Event L O R) (o i : ℕ) → Leads F declared events s t → i < (object s o).freed
       → FreesRow t event o i → ⊥
   freed_once events s t event o i leads gone frees =
       let rises = freed_never_falls events s t leads o in
       let kept = frees.kept in
       absurd (omega (arith, gone, rises, kept))
 
-  abbrev IsLeave : Event L → ℕ → Type 0
+  abbrev IsLeave : Event L O R → ℕ → Type 0
   IsLeave event c = event ≡ AtPhases (Turn (Leave c))
 
   own_leave : (event : phase_events.Event) → is_leave event ≡ true → event ≡ Turn (Leave (phase_events.caller_of event))
@@ -65,7 +65,7 @@ module _ {S L P : Type 0} (F : Layouts S L P) (laws : AreLaws F) (declared : Lis
   own_leave event is = absurd (cc)
 
   -- an activity's rows stay read until it leaves
-  phase_reads : (s : Joined L) → IsSound F declared s → (event : phase_events.Event) → phase_events.caller_of event < many_callers s → (c o i : ℕ)
+  phase_reads : (s : Joined L O R) → IsSound F declared s → (event : phase_events.Event) → phase_events.caller_of event < many_callers s → (c o i : ℕ)
       → HasRead s.phases c o i → IsLeave (AtPhases event) c ⊎ HasRead (effect s (AtPhases event)).phases c o i
   phase_reads s sound event there c o i read =
       ⊎_elim
@@ -89,26 +89,26 @@ module _ {S L P : Type 0} (F : Layouts S L P) (laws : AreLaws F) (declared : Lis
           inr (subst (λ d. HasRead (effect s (AtPhases event)).phases d o i) (sym own)
           ((only_its_caller s.phases event sound.phases there).rows is o i (subst (λ d. HasRead s.phases d o i) own read)))
 
-  reads_on : (s : Joined L) → IsSound F declared s → (event : Event L) (c o i : ℕ) → IsPossible F declared s event → HasRead s.phases c o i
+  reads_on : (s : Joined L O R) → IsSound F declared s → (event : Event L O R) (c o i : ℕ) → IsPossible F declared s event → HasRead s.phases c o i
       → IsLeave event c ⊎ HasRead (effect s event).phases c o i
   reads_on s sound (AtPhases event) c o i possible read = phase_reads s sound event possible.caller c o i read
   reads_on s sound (AtCells event) c o i possible read = inr read
   reads_on s sound (HandWith d from onto layout e) c o i possible read = inr read
 
-  callers_on : (s : Joined L) → IsSound F declared s → (event : Event L) → IsPossible F declared s event → many_callers (effect s event) ≡ many_callers s
+  callers_on : (s : Joined L O R) → IsSound F declared s → (event : Event L O R) → IsPossible F declared s event → many_callers (effect s event) ≡ many_callers s
   callers_on s sound (AtPhases event) possible = (only_its_caller s.phases event sound.phases possible.caller).many_callers
   callers_on s sound (AtCells event) possible = refl
   callers_on s sound (HandWith c from onto layout e) possible = refl
 
   -- a Leave frees nothing
-  leave_frees : (s : Joined L) (c o : ℕ) → (object (effect s (AtPhases (Turn (Leave c)))) o).freed ≡ (object s o).freed
+  leave_frees : (s : Joined L O R) (c o : ℕ) → (object (effect s (AtPhases (Turn (Leave c)))) o).freed ≡ (object s o).freed
   leave_frees s c o = refl
 
   -- what is true as long as the row is kept stands for the reader, who has left else
-  until_left : (events : List (Event L)) (s t : Joined L) (c o i : ℕ) → IsSound F declared s → Leads F declared events s t → c < many_callers s
+  until_left : (events : List (Event L O R)) (s t : Joined L O R) (c o i : ℕ) → IsSound F declared s → Leads F declared events s t → c < many_callers s
       → HasRead s.phases c o i → Leaves c events ⊎ (IsSound F declared t × (c < many_callers t) × HasRead t.phases c o i)
   until_left [] s t c o i sound leads there read =
-      inr (subst (λ (u : Joined L). IsSound F declared u × (c < many_callers u) × HasRead u.phases c o i) (sym leads) (sound, there, read))
+      inr (subst (λ (u : Joined L O R). IsSound F declared u × (c < many_callers u) × HasRead u.phases c o i) (sym leads) (sound, there, read))
   until_left (event ∷ events) s t c o i sound leads there read =
       ⊎_elim {C = Leaves c (event ∷ events) ⊎ (IsSound F declared t × (c < many_callers t) × HasRead t.phases c o i)}
       (λ leave. inl (inl (sym leave)))
@@ -119,7 +119,7 @@ module _ {S L P : Type 0} (F : Layouts S L P) (laws : AreLaws F) (declared : Lis
       (reads_on s sound event c o i leads.0 read)
 
   -- a row is freed only after those who have read it have left
-  pub readers_left_freed : (events : List (Event L)) (s t : Joined L) (event : Event L) (c o i : ℕ) → IsSound F declared s → Leads F declared events s t
+  pub readers_left_freed : (events : List (Event L O R)) (s t : Joined L O R) (event : Event L O R) (c o i : ℕ) → IsSound F declared s → Leads F declared events s t
       → IsPossible F declared t event → c < many_callers s → HasRead s.phases c o i → FreesRow t event o i → Leaves c events
   readers_left_freed events s t event c o i sound leads possible there read frees =
       ⊎_elim {C = Leaves c events} (λ left. left)
@@ -139,13 +139,13 @@ module _ {S L P : Type 0} (F : Layouts S L P) (laws : AreLaws F) (declared : Lis
       (until_left events s t c o i sound leads there read)
 
   -- and its cells are given again only then
-  given_possible : (t : Joined L) (event : Event L) (o j : ℕ) → IsPossible F declared t event → GivesLife t event o j
+  given_possible : (t : Joined L O R) (event : Event L O R) (o j : ℕ) → IsPossible F declared t event → GivesLife t event o j
       → (incarnation t o ≡ 0) ⊎ (incarnation t o ≤ (object t o).freed)
   given_possible t event o j possible gives =
       let may = subst (IsPossible F declared t) gives.hand possible in
       subst (λ r. (incarnation t r ≡ 0) ⊎ (incarnation t r ≤ (object t r).freed)) gives.object may.may.beside.freed
 
-  pub readers_left_given : (events : List (Event L)) (s t : Joined L) (event : Event L) (c o i : ℕ) → IsSound F declared s → Leads F declared events s t
+  pub readers_left_given : (events : List (Event L O R)) (s t : Joined L O R) (event : Event L O R) (c o i : ℕ) → IsSound F declared s → Leads F declared events s t
       → IsPossible F declared t event → c < many_callers s → HasRead s.phases c o i → GivesLife t event o (i + 2) → Leaves c events
   readers_left_given events s t event c o i sound leads possible there read gives =
       ⊎_elim {C = Leaves c events} (λ left. left)
@@ -156,14 +156,14 @@ module _ {S L P : Type 0} (F : Layouts S L P) (laws : AreLaws F) (declared : Lis
       (given_possible t event o (i + 2) possible gives)))
       (until_left events s t c o i sound leads there read)
 
-  pub readers_left : (events : List (Event L)) (s t : Joined L) (event : Event L) (c o i : ℕ) → IsSound F declared s → Leads F declared events s t
+  pub readers_left : (events : List (Event L O R)) (s t : Joined L O R) (event : Event L O R) (c o i : ℕ) → IsSound F declared s → Leads F declared events s t
       → IsPossible F declared t event → c < many_callers s → HasRead s.phases c o i → TakesRow t event o i → Leaves c events
   readers_left events s t event c o i sound leads possible there read takes =
       ⊎_elim {C = Leaves c events} (λ frees. readers_left_freed events s t event c o i sound leads possible there read frees)
       (λ gives. readers_left_given events s t event c o i sound leads possible there read gives) takes
 
   -- a row is handed on where none is ahead
-  given_first : (t : Joined L) (event : Event L) (o j : ℕ) → IsPossible F declared t event → GivesLife t event o j → many_hands t o < j
+  given_first : (t : Joined L O R) (event : Event L O R) (o j : ℕ) → IsPossible F declared t event → GivesLife t event o j → many_hands t o < j
   given_first t event o j possible gives =
       let may = subst (IsPossible F declared t) gives.hand possible in
       let first : is_handed t o ≡ false = subst (λ r. is_handed t r ≡ false) gives.object may.may.beside.once in
@@ -174,7 +174,7 @@ module _ {S L P : Type 0} (F : Layouts S L P) (laws : AreLaws F) (declared : Lis
       not_less : (m n : ℕ) → ltb m n ≡ false → n ≤ m
       not_less m n is = grind (arith, nat_tests, is)
 
-  pub each_once : (events : List (Event L)) (s t : Joined L) → Leads F declared events s t → IsFreedOnce F declared s t
+  pub each_once : (events : List (Event L O R)) (s t : Joined L O R) → Leads F declared events s t → IsFreedOnce F declared s t
   each_once events s t leads = record {
     kept = λ o. freed_never_falls events s t leads o;
     once = λ event o i gone frees. freed_once events s t event o i leads gone frees;

@@ -12,7 +12,6 @@ use Rattle.k42_kinds.specs.declared.entry.Answer.TheVariants.{Spent, Gone}
 use Rattle.k42_kinds.specs.declared.entry.Entry.{Entry}
 use Rattle.k42_kinds.specs.declared.entry.Reach.TheVariants.{One}
 use Rattle.k42_kinds.specs.declared.entry.To.{To}
-use Rattle.k42_kinds.specs.declared.operation.Op.{Op}
 use Rattle.k42_kinds.specs.OneThread.{OneThread}
 use Rattle.phase_core.specs.Plain.{Object}
 use Rattle.phase_core.specs.Sound as phases
@@ -62,7 +61,7 @@ first_is layout rest [] declaration same = same_Some layout declaration (ap (λ 
 first_is layout rest (newest ∷ layouts) declaration same = same_Some layout newest (ap (λ xs. slice_get xs 0) same)
 
 -- what was drawn at the present row
-pub record IsDrawn {S L P : Type 0} (F : Layouts S L P) (declared : List L) (s : Joined L) (c : ℕ) (cells : List ℕ) (e : Entry) : Type 0 where
+pub record IsDrawn {S L P O R : Type 0} (F : Layouts S L P O R) (declared : List L) (s : Joined L O R) (c : ℕ) (cells : List ℕ) (e : Entry O R) : Type 0 where
   pub named : e.object < many_objects s
   pub present : e.incarnation ≡ incarnation s e.object
   pub of_row : AreOfRow s e.object cells
@@ -71,17 +70,17 @@ pub record IsDrawn {S L P : Type 0} (F : Layouts S L P) (declared : List L) (s :
   -- the object's rows before and after
   pub declaration : L
   pub declares : slice_get declared e.object ≡ Some declaration
-  pub chain : Chain L P
+  pub chain : Chain L P O R
   pub was : AreRowsOf F declaration s e.object chain
-  pub after : Chain L P
+  pub after : Chain L P O R
   pub is : AreRowsOf F declaration (record s { turns = turn_events.effect s.turns (Draw c cells e); kept = kept_drawn s c false }) e.object after
   pub follows : FollowsDraw F e chain after
   pub others :
-      (q : ℕ) (other : L) (z : Chain L P) → q ≢ e.object → AreRowsOf F other s q z
+      (q : ℕ) (other : L) (z : Chain L P O R) → q ≢ e.object → AreRowsOf F other s q z
       → AreRowsOf F other (record s { turns = turn_events.effect s.turns (Draw c cells e); kept = kept_drawn s c false }) q z
 
 -- a mark is true of the row, by its layout's tag
-mark_of : (k : Object) (tag number : ℕ) (answer : Answer) → tells_over answer ≡ true → tag ≤ 2 → tag ≡ k.layout → number ≡ k.incarnation
+mark_of : {R : Type 0} (k : Object) (tag number : ℕ) (answer : Answer R) → tells_over answer ≡ true → tag ≤ 2 → tag ≡ k.layout → number ≡ k.incarnation
     → IsTrueOf k k.incarnation answer → IsMarkOf tag number answer
 mark_of k tag number Spent over known same now is = (low tag known (λ two. is.2 (sym same ∙ two)), now ∙ is.1) where
   low : (tag : ℕ) → tag ≤ 2 → tag ≢ 2 → tag ≤ 1
@@ -89,33 +88,33 @@ mark_of k tag number Spent over known same now is = (low tag known (λ two. is.2
 mark_of k tag number Gone over known same now is = same ∙ is.1
 mark_of k tag number answer over known same now is = absurd (cc)
 
-mark_served : {S : Type 0} (one : OneThread S) (k : Object) (tag number : ℕ) (act : Act) (answer : Answer) → ((op : Op) → act ≡ Call op → ⊥)
+mark_served : {S O R : Type 0} (one : OneThread S O R) (k : Object) (tag number : ℕ) (act : Act O) (answer : Answer R) → ((op : O) → act ≡ Call op → ⊥)
     → IsMarkOf tag number answer → IsCallOrMark one tag number act answer
 mark_served one k tag number (Call op) answer not mark = absurd (not op refl)
 mark_served one k tag number (Swap to) answer not mark = mark
 
-no_call_swap : (to : To) (op : Op) → Swap to ≡ Call op → ⊥
+no_call_swap : {O : Type 0} (to : To) (op : O) → Swap to ≡ Call op → ⊥
 no_call_swap to op same = cc
 
-no_reply : (answer : Answer) → tells_over answer ≡ true → reply_in answer ≡ None
+no_reply : {R : Type 0} (answer : Answer R) → tells_over answer ≡ true → reply_in answer ≡ None
 no_reply Spent over = refl
 no_reply Gone over = refl
 no_reply answer over = absurd (cc)
 
-module _ {S L P : Type 0} (F : Layouts S L P) (laws : AreLaws F) (declared : List L) (s : Joined L)
+module _ {S L P O R : Type 0} (F : Layouts S L P O R) (laws : AreLaws F) (declared : List L) (s : Joined L O R)
     (sound : phases.IsSound s.phases) (turns_sound : turns.IsSound s.turns) (locked : AreLocked s) (rows : Fitting F declared s)
-    (answered : AreAnswered s) (c : ℕ) (cells : List ℕ) (e : Entry) (there : c < many_callers s) (core : IsCoreDraw s.turns c cells e) where
-  newest : (declaration : L) (x : Chain L P) → AreRowsOf F declaration s e.object x
+    (answered : AreAnswered s) (c : ℕ) (cells : List ℕ) (e : Entry O R) (there : c < many_callers s) (core : IsCoreDraw s.turns c cells e) where
+  newest : (declaration : L) (x : Chain L P O R) → AreRowsOf F declaration s e.object x
       → x.row.layout ≡ newest_layout (layouts_of s e.object) declaration
   newest declaration x is = first_is x.row.layout _ (layouts_of s e.object) declaration is.layouts
 
-  chain_of : (declaration : L) → slice_get declared e.object ≡ Some declaration → (x : Chain L P) × (slice_get rows.chains e.object ≡ Some x)
+  chain_of : (declaration : L) → slice_get declared e.object ≡ Some declaration → (x : Chain L P O R) × (slice_get rows.chains e.object ≡ Some x)
   chain_of declaration declares =
       some_at rows.chains e.object (rw rows.many (slice_get_within declared e.object declaration declares))
 
   -- a call
 
-  call_drawn : (op : Op) → e.act ≡ Call op → IsCall F declared s c cells e op → IsDrawn F declared s c cells e
+  call_drawn : (op : O) → e.act ≡ Call op → IsCall F declared s c cells e op → IsDrawn F declared s c cells e
   call_drawn op act call = record {
     named = named_at call.declares;
     present = present;
@@ -141,7 +140,7 @@ module _ {S L P : Type 0} (F : Layouts S L P) (laws : AreLaws F) (declared : Lis
     present : e.incarnation ≡ incarnation s e.object
     present = (inside_is_present s.phases sound c e.object e.incarnation there (inside_is (visitor_at s.phases c).place e.object e.incarnation call.inside)).1
 
-    x : Chain L P
+    x : Chain L P O R
     x = (chain_of call.declaration call.declares).0
 
     at : slice_get rows.chains e.object ≡ Some x
@@ -151,7 +150,7 @@ module _ {S L P : Type 0} (F : Layouts S L P) (laws : AreLaws F) (declared : Lis
     has = rows.each e.object call.declaration x call.declares at
 
     takes : IsTrue ((F.object_of x.row.layout).takes op)
-    takes = subst (λ (one : OneThread S). IsTrue (one.takes op)) (sym has.rows.fits.row.kind) call.takes
+    takes = subst (λ (one : OneThread S O R). IsTrue (one.takes op)) (sym has.rows.fits.row.kind) call.takes
 
     served : (number : ℕ) → IsCallOrMark (F.object_of x.row.layout) (F.tag_of x.row.layout) number e.act e.answer
     served number = subst (λ act. IsCallOrMark (F.object_of x.row.layout) (F.tag_of x.row.layout) number act e.answer) (sym act) takes
@@ -173,7 +172,7 @@ module _ {S L P : Type 0} (F : Layouts S L P) (laws : AreLaws F) (declared : Lis
 
   -- a swap that found its object over
 
-  mark_drawn : ((op : Op) → e.act ≡ Call op → ⊥) → FoundOver F declared s c cells e → IsDrawn F declared s c cells e
+  mark_drawn : ((op : O) → e.act ≡ Call op → ⊥) → FoundOver F declared s c cells e → IsDrawn F declared s c cells e
   mark_drawn not mark = record {
     named = named;
     present = mark.present;
@@ -205,7 +204,7 @@ module _ {S L P : Type 0} (F : Layouts S L P) (laws : AreLaws F) (declared : Lis
     declares : slice_get declared e.object ≡ Some declaration
     declares = (some_at declared e.object (rw rows.objects named)).1
 
-    x : Chain L P
+    x : Chain L P O R
     x = (chain_of declaration declares).0
 
     at : slice_get rows.chains e.object ≡ Some x
@@ -214,7 +213,7 @@ module _ {S L P : Type 0} (F : Layouts S L P) (laws : AreLaws F) (declared : Lis
     has : HasRows F s e.object declaration x
     has = rows.each e.object declaration x declares at
 
-    by_act : (act : Act) → e.act ≡ act → ((op : Op) → act ≡ Call op → ⊥) → reach_of F x.row.layout e ≡ One 0
+    by_act : (act : Act O) → e.act ≡ act → ((op : O) → act ≡ Call op → ⊥) → reach_of F x.row.layout e ≡ One 0
     by_act (Call op) is not = absurd (not op refl)
     by_act (Swap to) is not = ap (λ act. needs (F.ways_of x.row.layout) F.procs act (F.proc_of e.caller)) is
 
@@ -244,7 +243,7 @@ module _ {S L P : Type 0} (F : Layouts S L P) (laws : AreLaws F) (declared : Lis
         (past_now F laws declared s turns_sound locked rows c cells e there core declaration x declares at mark.present within reached)
         (own.found e.object e.answer mark.begun mark.found).over)
 
-    silent : (act : Act) → ((op : Op) → act ≡ Call op → ⊥)
+    silent : (act : Act O) → ((op : O) → act ≡ Call op → ⊥)
         → act_replies (F.ways_of x.row.layout) (parts_of F x.row) act (reach_of F x.row.layout e) ≡ None
     silent (Call op) not = absurd (not op refl)
     silent (Swap to) not = refl
@@ -252,7 +251,7 @@ module _ {S L P : Type 0} (F : Layouts S L P) (laws : AreLaws F) (declared : Lis
     replied : (part_steps F x.row.layout).answers (parts_of F x.row) e ≡ (part_steps F x.row.layout).tells e
     replied = silent e.act not ∙ sym (no_reply e.answer mark.over)
 
-  drawn_by : (act : Act) → e.act ≡ act → IsDrawnAs F declared s c cells e act → IsDrawn F declared s c cells e
+  drawn_by : (act : Act O) → e.act ≡ act → IsDrawnAs F declared s c cells e act → IsDrawn F declared s c cells e
   drawn_by (Call op) is call = call_drawn op is call
   drawn_by (Swap to) is mark = mark_drawn (λ op call. no_call_swap to op (sym is ∙ call)) mark
 

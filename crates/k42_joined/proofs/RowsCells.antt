@@ -29,32 +29,32 @@ use Rattle.k42_joined.proofs.LocksCells.{IsSameTold, told_at}
 use Rattle.k42_joined.proofs.RowsHistories.{fits_same}
 use Rattle.k42_joined.proofs.RowsLists.{map-set_same, map-set, Grows, grown_those}
 
-pub told_histories : (x y : Cell) → IsSameTold x y → histories_of y ≡ histories_of x
+pub told_histories : {O R : Type 0} (x y : Cell O R) → IsSameTold x y → histories_of y ≡ histories_of x
 told_histories x y same = ap (λ past. past ++ y.history ∷ []) same.past ∙ ap (λ history. x.past ++ history ∷ []) same.history
 
 -- the histories are those from before
-abbrev pub AreSameHistories : {L : Type 0} → Joined L → Turns → Type 0
+abbrev pub AreSameHistories : {L O R : Type 0} → Joined L O R → Turns O R → Type 0
 AreSameHistories s t = (n : ℕ) → histories_of (cell_at t n) ≡ histories_of (cell s n)
 
-pub list_here : {L : Type 0} (s : Joined L) (c : ℕ) → c < length s.turns.callers → slice_get (lists_of s) c ≡ Some (mine s c)
-list_here s c there = slice_get-map_at s.turns.callers c there where
-  slice_get-map_at : (callers : List Caller) (c : ℕ) → c < length callers → slice_get (map (λ (x : Caller). x.mine) callers) c ≡ Some (drawn_by callers c)
+pub list_here : {L O R : Type 0} (s : Joined L O R) (c : ℕ) → c < length s.turns.callers → slice_get (lists_of s) c ≡ Some (mine s c)
+list_here {O} {R} s c there = slice_get-map_at s.turns.callers c there where
+  slice_get-map_at : (callers : List (Caller O R)) (c : ℕ) → c < length callers → slice_get (map (λ (x : Caller O R). x.mine) callers) c ≡ Some (drawn_by callers c)
   slice_get-map_at [] c lt = absurd (omega arith)
   slice_get-map_at (x ∷ xs) zero lt = refl
   slice_get-map_at (x ∷ xs) (suc c) lt = slice_get-map_at xs c (omega arith)
 
 -- the lists after the caller drew an entry
-pub lists_drawn : (callers : List Caller) (c : ℕ) (e : Entry)
-    → map (λ (x : Caller). x.mine) (set callers c (caller_drawn e (get_or callers c fresh_caller)))
-    ≡ set (map (λ (x : Caller). x.mine) callers) c (drawn_by callers c ++ e ∷ [])
-lists_drawn callers c e = map-set (λ (x : Caller). x.mine) callers c (caller_drawn e (get_or callers c fresh_caller))
+pub lists_drawn : {O R : Type 0} (callers : List (Caller O R)) (c : ℕ) (e : Entry O R)
+    → map (λ (x : Caller O R). x.mine) (set callers c (caller_drawn e (get_or callers c fresh_caller)))
+    ≡ set (map (λ (x : Caller O R). x.mine) callers) c (drawn_by callers c ++ e ∷ [])
+lists_drawn {O} {R} callers c e = map-set (λ (x : Caller O R). x.mine) callers c (caller_drawn e (get_or callers c fresh_caller))
 
-module _ {S L P : Type 0} (F : Layouts S L P) (declared : List L) (s : Joined L) (rows : Fitting F declared s) where
-  same_history : (t : Turns) (kept : List Kept) → AreSameHistories s t → (o row p : ℕ)
+module _ {S L P O R : Type 0} (F : Layouts S L P O R) (declared : List L) (s : Joined L O R) (rows : Fitting F declared s) where
+  same_history : (t : Turns O R) (kept : List (Kept R)) → AreSameHistories s t → (o row p : ℕ)
       → history_in (record s { turns = t; kept = kept }) o row p ≡ history_in s o row p
   same_history t kept same o row p = ap (λ histories. get_or histories (row / 2) []) (same (cell_of o row p))
 
-  same_each : (t : Turns) (kept : List Kept) → AreSameHistories s t → (o : ℕ) (declaration : L) (chain : Chain L P)
+  same_each : (t : Turns O R) (kept : List (Kept R)) → AreSameHistories s t → (o : ℕ) (declaration : L) (chain : Chain L P O R)
       → HasRows F s o declaration chain → HasRows F (record s { turns = t; kept = kept }) o declaration chain
   same_each t kept same o declaration chain has = record {
     rows = record {
@@ -66,7 +66,7 @@ module _ {S L P : Type 0} (F : Layouts S L P) (declared : List L) (s : Joined L)
   }
 
   -- only locks, places and what is held change
-  pub told_keeps : (t : Turns) → AreSameHistories s t → map (λ (x : Caller). x.mine) t.callers ≡ lists_of s
+  pub told_keeps : (t : Turns O R) → AreSameHistories s t → map (λ (x : Caller O R). x.mine) t.callers ≡ lists_of s
       → Fitting F declared (record s { turns = t })
   told_keeps t same lists = record {
     told = record { procs = rows.told.procs; proc_of = rows.told.proc_of };
@@ -89,8 +89,8 @@ module _ {S L P : Type 0} (F : Layouts S L P) (declared : List L) (s : Joined L)
     };
   }
 
-  one_cell : (changed : Cell → Cell) → ((x : Cell) → IsSameTold x (changed x)) → (n : ℕ) (callers : List Caller)
-      → map (λ (x : Caller). x.mine) callers ≡ lists_of s
+  one_cell : (changed : Cell O R → Cell O R) → ((x : Cell O R) → IsSameTold x (changed x)) → (n : ℕ) (callers : List (Caller O R))
+      → map (λ (x : Caller O R). x.mine) callers ≡ lists_of s
       → Fitting F declared (record s { turns = record { cells = (change_cell changed s.turns n).cells; callers = callers } })
   one_cell changed same n callers lists =
       told_keeps (record { cells = (change_cell changed s.turns n).cells; callers = callers })
@@ -105,12 +105,12 @@ module _ {S L P : Type 0} (F : Layouts S L P) (declared : List L) (s : Joined L)
   pub unlock_keeps_rows : (c n : ℕ) → Fitting F declared (record s { turns = turns.effect s.turns (Unlock c n) })
   unlock_keeps_rows c n =
       one_cell cell_unlocked (λ x. record { closed = refl; life = refl; history = refl; past = refl }) n _
-      (map-set_same (λ (x : Caller). x.mine) s.turns.callers c (caller_unlocked n (caller_at s.turns c)) fresh_caller refl)
+      (map-set_same (λ (x : Caller O R). x.mine) s.turns.callers c (caller_unlocked n (caller_at s.turns c)) fresh_caller refl)
 
   lock_found : (c n : ℕ) (found : Option ℕ) → Fitting F declared (record s { turns = turns.locked s.turns c n found })
   lock_found c n None =
       one_cell (cell_locked c) (λ x. record { closed = refl; life = refl; history = refl; past = refl }) n _
-      (map-set_same (λ (x : Caller). x.mine) s.turns.callers c (caller_locked n (caller_at s.turns c)) fresh_caller refl)
+      (map-set_same (λ (x : Caller O R). x.mine) s.turns.callers c (caller_locked n (caller_at s.turns c)) fresh_caller refl)
   lock_found c n (Some holder) = rows
 
   pub lock_keeps_rows : (c n : ℕ) → Fitting F declared (record s { turns = turns.effect s.turns (Lock c n) })
@@ -119,24 +119,24 @@ module _ {S L P : Type 0} (F : Layouts S L P) (declared : List L) (s : Joined L)
   pub skip_keeps_rows : (c stamp : ℕ) → Fitting F declared (record s { turns = turns.effect s.turns (Skip c stamp) })
   skip_keeps_rows c stamp =
       told_keeps (turns.effect s.turns (Skip c stamp)) (λ n. refl)
-      (map-set_same (λ (x : Caller). x.mine) s.turns.callers c (caller_skipped stamp (caller_at s.turns c)) fresh_caller refl)
+      (map-set_same (λ (x : Caller O R). x.mine) s.turns.callers c (caller_skipped stamp (caller_at s.turns c)) fresh_caller refl)
 
   -- an entry drawn at no cell
 
-  not_drawn : (act : Act) (answer : Answer) (c : ℕ) (e : Entry) → is_call act ≡ false → IsAnsweredAlone s c e answer → is_drawn act answer ≡ true → ⊥
+  not_drawn : (act : Act O) (answer : Answer R) (c : ℕ) (e : Entry O R) → is_call act ≡ false → IsAnsweredAlone s c e answer → is_drawn act answer ≡ true → ⊥
   not_drawn (Call op) answer c e not is drawn = cc
   not_drawn (Swap to) (Busy number) c e not is drawn = cc
   not_drawn (Swap to) (Abandoned number) c e not is drawn = cc
   not_drawn act answer c e not is drawn = absurd is
 
-  same_grows : (e : Entry) → Grows F.procs (history_in s) (history_in s) rows.chains rows.chains e
+  same_grows : (e : Entry O R) → Grows F.procs (history_in s) (history_in s) rows.chains rows.chains e
   same_grows e = record {
     chain = λ o x at. (x, at, le_refl (length x.past));
     kept = λ o row p x f at less lt is. is;
     split = λ o row p x f at less lt is. inr (x, at, (row, p, less, lt, is));
   }
 
-  pub alone_keeps_rows : (c : ℕ) (e : Entry) (abandons : Bool) → c < length s.turns.callers → MayDrawAlone s c e
+  pub alone_keeps_rows : (c : ℕ) (e : Entry O R) (abandons : Bool) → c < length s.turns.callers → MayDrawAlone s c e
       → Fitting F declared (record s { turns = turns.effect s.turns (Alone c e); kept = kept_drawn s c abandons })
   alone_keeps_rows c e abandons there may = record {
     told = record { procs = rows.told.procs; proc_of = rows.told.proc_of };

@@ -52,12 +52,12 @@ use Rattle.k42_joined.proofs.RowsLists.{Grows, grown_those}
 use Rattle.k42_joined.proofs.RowsStamps.{all_placed, in_own, above_own, above_cell}
 
 -- what the core asks of a draw
-pub record IsCoreDraw (s : Turns) (c : ℕ) (cells : List ℕ) (e : Entry) : Type 0 where
+pub record IsCoreDraw {O R : Type 0} (s : Turns O R) (c : ℕ) (cells : List ℕ) (e : Entry O R) : Type 0 where
   pub once : names_once cells ≡ true
   pub opened : list_all (has_open s c) cells ≡ true
   pub next : IsNextStamp s c cells e
 
-pub core_draw : (s : Turns) (c : ℕ) (cells : List ℕ) (e : Entry) → turns.is_possible s (Draw c cells e) ≡ true → IsCoreDraw s c cells e
+pub core_draw : {O R : Type 0} (s : Turns O R) (c : ℕ) (cells : List ℕ) (e : Entry O R) → turns.is_possible s (Draw c cells e) ≡ true → IsCoreDraw s c cells e
 core_draw s c cells e can =
     let third = and_parts (turns.names_some cells && names_once cells && list_all (has_open s c) cells) (turns.is_next s c cells e) can in
     let second = and_parts (turns.names_some cells && names_once cells) (list_all (has_open s c) cells) third.0 in
@@ -65,24 +65,24 @@ core_draw s c cells e can =
     record { once = first.1; opened = second.1; next = next_parts s c cells e third.1 }
 
 -- each entry of a row was drawn at cells
-served_drawn : {S : Type 0} (object : OneThread S) (tag number : ℕ) (act : Act) (answer : Answer) → IsCallOrMark object tag number act answer → is_drawn act answer ≡ true
+served_drawn : {S O R : Type 0} (object : OneThread S O R) (tag number : ℕ) (act : Act O) (answer : Answer R) → IsCallOrMark object tag number act answer → is_drawn act answer ≡ true
 served_drawn object tag number (Call op) answer served = refl
 served_drawn object tag number (Swap to) Spent served = refl
 served_drawn object tag number (Swap to) Gone served = refl
 served_drawn object tag number act answer served = absurd served
 
-in_told : (f e : Entry) (h : List Entry) (b : Bool) → In f (cond b (h ++ e ∷ []) h) → (f ≡ e) ⊎ In f h
+in_told : {O R : Type 0} (f e : Entry O R) (h : List (Entry O R)) (b : Bool) → In f (cond b (h ++ e ∷ []) h) → (f ≡ e) ⊎ In f h
 in_told f e h true is = ⊎_elim (λ old. inr old) (λ new. ⊎_elim (λ same. inl same) (λ none. absurd none) new) (in-append f h (e ∷ []) is)
 in_told f e h false is = inr is
 
-told_in : (f e : Entry) (h : List Entry) (b : Bool) → In f h → In f (cond b (h ++ e ∷ []) h)
+told_in : {O R : Type 0} (f e : Entry O R) (h : List (Entry O R)) (b : Bool) → In f h → In f (cond b (h ++ e ∷ []) h)
 told_in f e h true is = in_left f h (e ∷ []) is
 told_in f e h false is = is
 
-module _ {S L P : Type 0} (F : Layouts S L P) (laws : AreLaws F) (declared : List L) (s : Joined L)
+module _ {S L P O R : Type 0} (F : Layouts S L P O R) (laws : AreLaws F) (declared : List L) (s : Joined L O R)
     (sound : turns_sound.IsSound s.turns) (locked : AreLocked s) (rows : Fitting F declared s)
-    (c : ℕ) (cells : List ℕ) (e : Entry) (there : c < many_callers s) (core : IsCoreDraw s.turns c cells e)
-    (declaration : L) (x : Chain L P) (declares : slice_get declared e.object ≡ Some declaration)
+    (c : ℕ) (cells : List ℕ) (e : Entry O R) (there : c < many_callers s) (core : IsCoreDraw s.turns c cells e)
+    (declaration : L) (x : Chain L P O R) (declares : slice_get declared e.object ≡ Some declaration)
     (at : slice_get rows.chains e.object ≡ Some x) (present : e.incarnation ≡ incarnation s e.object)
     (within : IsWithin F.procs (reach_of F x.row.layout e))
     (reached : cells ≡ cells_reached (many_procs s) e.object e.incarnation (reach_of F x.row.layout e)) where
@@ -140,7 +140,7 @@ module _ {S L P : Type 0} (F : Layouts S L P) (laws : AreLaws F) (declared : Lis
   pub past_now : length x.past ≡ i
   past_now =
       let long = ap length has.rows.layouts in
-      let mapped = length-map x.past (λ (turn : Turn L P). turn.row.layout) in
+      let mapped = length-map x.past (λ (turn : Turn L P O R). turn.row.layout) in
       let more = length-append (layouts_of s o) (declaration ∷ []) in
       let now = hands_now in
       omega (arith, long, mapped, more, now)
@@ -157,8 +157,8 @@ module _ {S L P : Type 0} (F : Layouts S L P) (laws : AreLaws F) (declared : Lis
       later = λ p lt touch.
           all_placed (IsLater e) (history_in s o (length x.past) p)
           (λ f is. above_cell s.turns sound c cells e core.next (cell_of o i p) (names_is p (in_procs p lt) ∙ touch) f
-          (subst (λ (h : List Entry). In f h) (history_now p (in_procs p lt)) is));
-      after_own = all_placed (λ (other : Entry). other.caller ≡ e.caller → IsLater e other) x.row.entries
+          (subst (λ (h : List (Entry O R)). In f h) (history_now p (in_procs p lt)) is));
+      after_own = all_placed (λ (other : Entry O R). other.caller ≡ e.caller → IsLater e other) x.row.entries
           (λ f is same.
           let inside = chain_in_rows F declaration o (history_in s o) laws x f has.rows.fits (in_right f (past_entries x.past) x.row.entries is) in
           let own : IsEntryOf F x.row.layout o (length x.past) f = all_at (IsEntryOf F x.row.layout o (length x.past)) x.row.entries f has.rows.fits.row.own is in
@@ -170,13 +170,13 @@ module _ {S L P : Type 0} (F : Layouts S L P) (laws : AreLaws F) (declared : Lis
     pub drew : Draws F declaration o (history_in s o) x e
     drew = draw_keeps F declaration o (history_in s o) x e laws has.rows.fits next
 
-    abbrev pub y : Chain L P
+    abbrev pub y : Chain L P O R
     y = chain_with x (drew.front ++ e ∷ drew.back)
 
-    abbrev pub t : Joined L
+    abbrev pub t : Joined L O R
     t = record s { turns = turns.effect s.turns (Draw c cells e); kept = kept_drawn s c false }
 
-    abbrev drawing : Turns
+    abbrev drawing : Turns O R
     drawing = change_caller (caller_drawn e) s.turns c
 
     cell_after : (n : ℕ) (b : Bool) → n < length s.turns.cells → names cells n ≡ b
@@ -223,7 +223,7 @@ module _ {S L P : Type 0} (F : Layouts S L P) (laws : AreLaws F) (declared : Lis
         ∙ told_past e (cell_in s o i p) (row / 2) b short
         ∙ ap (λ n. at_life (cell s n) (row / 2)) (sym same)
 
-    abbrev drawn : ℕ → ℕ → List Entry
+    abbrev drawn : ℕ → ℕ → List (Entry O R)
     drawn = drawn_at F x.row.layout e (length x.past) (history_in s o)
 
     history_after : (row p : ℕ) → row ≤ length x.past → p < F.procs → history_in t o row p ≡ drawn row p
@@ -245,7 +245,7 @@ module _ {S L P : Type 0} (F : Layouts S L P) (laws : AreLaws F) (declared : Lis
         before row p less lt =
             ⊎_elim (λ parity. history_before row p less parity lt) (λ apart. history_else o row p lt (inr apart)) (cases_eq (row % 2) (i % 2))
 
-    abbrev newer : List (Chain L P)
+    abbrev newer : List (Chain L P O R)
     newer = set rows.chains o y
 
     y_there : slice_get newer o ≡ Some y
@@ -261,13 +261,13 @@ module _ {S L P : Type 0} (F : Layouts S L P) (laws : AreLaws F) (declared : Lis
     }
 
     -- the rows of another object stay
-    pub rows_else : (q : ℕ) (other : L) (z : Chain L P) → q ≢ o → AreRowsOf F other s q z → AreRowsOf F other t q z
+    pub rows_else : (q : ℕ) (other : L) (z : Chain L P O R) → q ≢ o → AreRowsOf F other s q z → AreRowsOf F other t q z
     rows_else q other z apart old = record {
       fits = fits_same F (history_in s q) (history_in t q) other q z (λ row p le lt. history_else q row p (in_procs p lt) (inl apart)) old.fits;
       layouts = old.layouts;
     }
 
-    else_rows : (q : ℕ) (other : L) (z : Chain L P) → q ≢ o → HasRows F s q other z → HasRows F t q other z
+    else_rows : (q : ℕ) (other : L) (z : Chain L P O R) → q ≢ o → HasRows F s q other z → HasRows F t q other z
     else_rows q other z apart old = record {
       rows = record {
         fits = fits_same F (history_in s q) (history_in t q) other q z (λ row p le lt. history_else q row p (in_procs p lt) (inl apart)) old.rows.fits;
@@ -278,29 +278,29 @@ module _ {S L P : Type 0} (F : Layouts S L P) (laws : AreLaws F) (declared : Lis
 
     grows : Grows F.procs (history_in s) (history_in t) rows.chains newer e
     grows = record {
-      chain = λ q z is. ⊎_elim {C = (w : Chain L P) × (slice_get newer q ≡ Some w) × (length z.past ≤ length w.past)}
+      chain = λ q z is. ⊎_elim {C = (w : Chain L P O R) × (slice_get newer q ≡ Some w) × (length z.past ≤ length w.past)}
           (λ (same : q ≡ o).
           let own : z ≡ x = same_Some z x (sym is ∙ ap (slice_get rows.chains) same ∙ at) in
-          (y, ap (slice_get newer) same ∙ y_there, subst (λ (w : Chain L P). length w.past ≤ length x.past) (sym own) (le_refl (length x.past))))
+          (y, ap (slice_get newer) same ∙ y_there, subst (λ (w : Chain L P O R). length w.past ≤ length x.past) (sym own) (le_refl (length x.past))))
           (λ other. (z, slice_get-set_else rows.chains o q y other ∙ is, le_refl (length z.past)))
           (cases_eq q o);
       kept = λ q row p z f is le lt was. ⊎_elim
           (λ (same : q ≡ o).
           let own : z ≡ x = same_Some z x (sym is ∙ ap (slice_get rows.chains) same ∙ at) in
           subst (λ r. In f (history_in t r row p)) (sym same)
-          (subst (λ (h : List Entry). In f h) (sym (history_after row p (subst (λ (w : Chain L P). row ≤ length w.past) own le) lt))
+          (subst (λ (h : List (Entry O R)). In f h) (sym (history_after row p (subst (λ (w : Chain L P O R). row ≤ length w.past) own le) lt))
           (told_in f e (history_in s o row p) (eqb row (length x.past) && touches (reach_of F x.row.layout e) p) (subst (λ r. In f (history_in s r row p)) same was))))
-          (λ other. subst (λ (h : List Entry). In f h) (sym (history_else q row p (in_procs p lt) (inl other))) was)
+          (λ other. subst (λ (h : List (Entry O R)). In f h) (sym (history_else q row p (in_procs p lt) (inl other))) was)
           (cases_eq q o);
       split = λ q row p z f is le lt now. ⊎_elim
           (λ (t' : (q ≡ o) × (y ≡ z)).
-          let le' : row ≤ length x.past = subst (λ (w : Chain L P). row ≤ length w.past) (sym t'.1) le in
+          let le' : row ≤ length x.past = subst (λ (w : Chain L P O R). row ≤ length w.past) (sym t'.1) le in
           let split = in_told f e (history_in s o row p) (eqb row (length x.past) && touches (reach_of F x.row.layout e) p)
-          (subst (λ (h : List Entry). In f h) (history_after row p le' lt) (subst (λ r. In f (history_in t r row p)) t'.0 now)) in
+          (subst (λ (h : List (Entry O R)). In f h) (history_after row p le' lt) (subst (λ r. In f (history_in t r row p)) t'.0 now)) in
           ⊎_elim (λ same. inl same)
           (λ was. inr (x, ap (slice_get rows.chains) t'.0 ∙ at, (row, p, le', lt, subst (λ r. In f (history_in s r row p)) (sym t'.0) was))) split)
           (λ (t' : (q ≢ o) × (slice_get rows.chains q ≡ Some z)).
-          inr (z, t'.1, (row, p, le, lt, subst (λ (h : List Entry). In f h) (history_else q row p (in_procs p lt) (inl t'.0)) now)))
+          inr (z, t'.1, (row, p, le, lt, subst (λ (h : List (Entry O R)). In f h) (history_else q row p (in_procs p lt) (inl t'.0)) now)))
           (at_set rows.chains o q y z is);
     }
 
@@ -316,7 +316,7 @@ module _ {S L P : Type 0} (F : Layouts S L P) (laws : AreLaws F) (declared : Lis
             p.0,
             le_refl (length x.past),
             p.1,
-            subst (λ (h : List Entry). In e h) (sym (history_after (length x.past) p.0 (le_refl (length x.past)) p.1))
+            subst (λ (h : List (Entry O R)). In e h) (sym (history_after (length x.past) p.0 (le_refl (length x.past)) p.1))
                 (subst (λ b. In e (cond b (history_in s o (length x.past) p.0 ++ e ∷ []) (history_in s o (length x.past) p.0))) (sym hit)
                 (in_right e (history_in s o (length x.past) p.0) (e ∷ []) (inl refl))),
           );
@@ -338,7 +338,7 @@ module _ {S L P : Type 0} (F : Layouts S L P) (laws : AreLaws F) (declared : Lis
           (λ (t' : (q ≢ o) × (slice_get rows.chains q ≡ Some z)). else_rows q other z t'.0 (rows.each q other z declares' t'.1))
           (at_set rows.chains o q y z is);
       those = subst (λ ls. AreThose F.procs is_drawn ls (history_in t) newer)
-          (sym (ap (map (λ (z : Caller). z.mine)) (callers-change_cells (cell_told e) drawing cells) ∙ lists_drawn s.turns.callers c e))
+          (sym (ap (map (λ (z : Caller O R). z.mine)) (callers-change_cells (cell_told e) drawing cells) ∙ lists_drawn s.turns.callers c e))
           (grown_those F.procs is_drawn (lists_of s) c (mine s c) e (list_here s c callers_there) (history_in s) (history_in t) rows.chains newer
           grows (λ pass. stands) rows.those);
     }

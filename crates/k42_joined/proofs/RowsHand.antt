@@ -44,13 +44,13 @@ use Rattle.k42_joined.proofs.RowsHistories.{fits_same, at_life, at_present_life,
 use Rattle.k42_joined.proofs.RowsLists.{Grows, grown_those}
 use Rattle.k42_joined.proofs.RowsStamps.{all_placed, above_cell}
 
-in_begun : (f e : Entry) (h : List Entry) (b : Bool) → In f (cond b (e ∷ []) h) → (f ≡ e) ⊎ In f h
+in_begun : {O R : Type 0} (f e : Entry O R) (h : List (Entry O R)) (b : Bool) → In f (cond b (e ∷ []) h) → (f ≡ e) ⊎ In f h
 in_begun f e h true is = ⊎_elim (λ same. inl same) (λ none. absurd none) is
 in_begun f e h false is = inr is
 
-module _ {S L P : Type 0} (F : Layouts S L P) (laws : AreLaws F) (declared : List L) (s : Joined L)
+module _ {S L P O R : Type 0} (F : Layouts S L P O R) (laws : AreLaws F) (declared : List L) (s : Joined L O R)
     (sound : phases.IsSound s.phases) (turns_sound : turns.IsSound s.turns) (locked : AreLocked s) (rows : Fitting F declared s)
-    (c : ℕ) (from onto : List ℕ) (layout : L) (e : Entry) (there : c < many_callers s)
+    (c : ℕ) (from onto : List ℕ) (layout : L) (e : Entry O R) (there : c < many_callers s)
     (may : MayHandOn F declared s c from onto layout e) where
   abbrev o : ℕ
   o = e.object
@@ -58,7 +58,7 @@ module _ {S L P : Type 0} (F : Layouts S L P) (laws : AreLaws F) (declared : Lis
   abbrev i : ℕ
   i = incarnation s e.object
 
-  abbrev t : Joined L
+  abbrev t : Joined L O R
   t = effect s (HandWith c from onto layout e)
 
   abbrev declaration : L
@@ -76,14 +76,14 @@ module _ {S L P : Type 0} (F : Layouts S L P) (laws : AreLaws F) (declared : Lis
   now : many_hands s o ≡ i
   now = hands_now F declared s locked c from onto layout e may named
 
-  module _ (x : Chain L P) (at : slice_get rows.chains o ≡ Some x) where
+  module _ (x : Chain L P O R) (at : slice_get rows.chains o ≡ Some x) where
     has : HasRows F s o declaration x
     has = rows.each o declaration x declares at
 
     past_now : length x.past ≡ i
     past_now =
         let long = ap length has.rows.layouts in
-        let mapped = length-map x.past (λ (turn : Turn L P). turn.row.layout) in
+        let mapped = length-map x.past (λ (turn : Turn L P O R). turn.row.layout) in
         let more = length-append (layouts_of s o) (declaration ∷ []) in
         let same = now in
         omega (arith, long, mapped, more, same)
@@ -121,15 +121,15 @@ module _ {S L P : Type 0} (F : Layouts S L P) (laws : AreLaws F) (declared : Lis
           (λ f is.
           let n = cell_of o i p in
           let named_in : names (from ++ onto) n ≡ true = names_more from onto n (rw may.beside.closes (row_names (many_procs s) o i p (in_procs p lt))) in
-          above_cell s.turns turns_sound c (from ++ onto) e next n named_in f (subst (λ (h : List Entry). In f h) (history_now p (in_procs p lt)) is));
+          above_cell s.turns turns_sound c (from ++ onto) e next n named_in f (subst (λ (h : List (Entry O R)). In f h) (history_now p (in_procs p lt)) is));
       live = let low = ready.alive in let same = tagged_now in omega (arith, low, same);
       unspent = let low = ready.next in let same = past_now in omega (arith, low, same);
     }
 
-    abbrev y : Chain L P
+    abbrev y : Chain L P O R
     y = handed F x layout e
 
-    abbrev begun : ℕ → ℕ → List Entry
+    abbrev begun : ℕ → ℕ → List (Entry O R)
     begun = begun_at e (suc (length x.past)) (history_in s o)
 
     fits : Fits F declaration o begun y
@@ -178,7 +178,7 @@ module _ {S L P : Type 0} (F : Layouts S L P) (laws : AreLaws F) (declared : Lis
     history_else : (q row p : ℕ) → q ≢ o → p < many_procs s → history_in t q row p ≡ history_in s q row p
     history_else q row p other lt = ap (λ z. at_life z (row / 2)) (at_other F declared s locked c from onto layout e may named q row p lt other)
 
-    abbrev newer : List (Chain L P)
+    abbrev newer : List (Chain L P O R)
     newer = set rows.chains o y
 
     y_there : slice_get newer o ≡ Some y
@@ -205,13 +205,13 @@ module _ {S L P : Type 0} (F : Layouts S L P) (laws : AreLaws F) (declared : Lis
       tagged = here_tagged;
     }
 
-    rows_else : (q : ℕ) (other : L) (z : Chain L P) → q ≢ o → AreRowsOf F other s q z → AreRowsOf F other t q z
+    rows_else : (q : ℕ) (other : L) (z : Chain L P O R) → q ≢ o → AreRowsOf F other s q z → AreRowsOf F other t q z
     rows_else q other z apart old = record {
       fits = fits_same F (history_in s q) (history_in t q) other q z (λ row p le lt. history_else q row p apart (in_procs p lt)) old.fits;
       layouts = old.layouts ∙ sym (ap (λ ls. ls ++ other ∷ []) (hands_else F declared s locked c from onto layout e may named q apart));
     }
 
-    else_rows : (q : ℕ) (other : L) (z : Chain L P) → q ≢ o → HasRows F s q other z → HasRows F t q other z
+    else_rows : (q : ℕ) (other : L) (z : Chain L P O R) → q ≢ o → HasRows F s q other z → HasRows F t q other z
     else_rows q other z apart old =
         let same = hands_else F declared s locked c from onto layout e may named q apart in
         record {
@@ -224,34 +224,34 @@ module _ {S L P : Type 0} (F : Layouts S L P) (laws : AreLaws F) (declared : Lis
 
     grows : Grows F.procs (history_in s) (history_in t) rows.chains newer e
     grows = record {
-      chain = λ q z is. ⊎_elim {C = (w : Chain L P) × (slice_get newer q ≡ Some w) × (length z.past ≤ length w.past)}
+      chain = λ q z is. ⊎_elim {C = (w : Chain L P O R) × (slice_get newer q ≡ Some w) × (length z.past ≤ length w.past)}
           (λ (same : q ≡ o).
           let own : z ≡ x = same_Some z x (sym is ∙ ap (slice_get rows.chains) same ∙ at) in
-          (y, ap (slice_get newer) same ∙ y_there, subst (λ (w : Chain L P). length w.past ≤ suc (length x.past)) (sym own) (omega arith)))
+          (y, ap (slice_get newer) same ∙ y_there, subst (λ (w : Chain L P O R). length w.past ≤ suc (length x.past)) (sym own) (omega arith)))
           (λ other. (z, slice_get-set_else rows.chains o q y other ∙ is, le_refl (length z.past)))
           (cases_eq q o);
       kept = λ q row p z f is le lt was. ⊎_elim
           (λ (same : q ≡ o).
           let own : z ≡ x = same_Some z x (sym is ∙ ap (slice_get rows.chains) same ∙ at) in
           subst (λ r. In f (history_in t r row p)) (sym same)
-          (subst (λ (h : List Entry). In f h) (sym (history_old row p (subst (λ (w : Chain L P). row ≤ length w.past) own le) (in_procs p lt)))
+          (subst (λ (h : List (Entry O R)). In f h) (sym (history_old row p (subst (λ (w : Chain L P O R). row ≤ length w.past) own le) (in_procs p lt)))
           (subst (λ r. In f (history_in s r row p)) same was)))
-          (λ other. subst (λ (h : List Entry). In f h) (sym (history_else q row p other (in_procs p lt))) was)
+          (λ other. subst (λ (h : List (Entry O R)). In f h) (sym (history_else q row p other (in_procs p lt))) was)
           (cases_eq q o);
       split = λ q row p z f is le lt is_in. ⊎_elim
           (λ (u : (q ≡ o) × (y ≡ z)).
-          let le' : row ≤ suc (length x.past) = subst (λ (w : Chain L P). row ≤ length w.past) (sym u.1) le in
-          let here : In f (begun row p) = subst (λ (h : List Entry). In f h) (history_after row p le' lt) (subst (λ r. In f (history_in t r row p)) u.0 is_in) in
+          let le' : row ≤ suc (length x.past) = subst (λ (w : Chain L P O R). row ≤ length w.past) (sym u.1) le in
+          let here : In f (begun row p) = subst (λ (h : List (Entry O R)). In f h) (history_after row p le' lt) (subst (λ r. In f (history_in t r row p)) u.0 is_in) in
           ⊎_elim
           (λ (same : row ≡ suc (length x.past)).
-          let first : In f (e ∷ []) = subst (λ (h : List Entry). In f h) (begun_here e (suc (length x.past)) (history_in s o) p) (subst (λ r. In f (begun r p)) same here) in
+          let first : In f (e ∷ []) = subst (λ (h : List (Entry O R)). In f h) (begun_here e (suc (length x.past)) (history_in s o) p) (subst (λ r. In f (begun r p)) same here) in
           inl (⊎_elim {C = f ≡ e} (λ h. h) (λ none. absurd none) first))
           (λ (other : row ≢ suc (length x.past)).
-          let old : In f (history_in s o row p) = subst (λ (h : List Entry). In f h) (begun_else e (suc (length x.past)) (history_in s o) row p other) here in
+          let old : In f (history_in s o row p) = subst (λ (h : List (Entry O R)). In f h) (begun_else e (suc (length x.past)) (history_in s o) row p other) here in
           inr (x, ap (slice_get rows.chains) u.0 ∙ at, (row, p, omega (arith, le', other), lt, subst (λ r. In f (history_in s r row p)) (sym u.0) old)))
           (cases_eq row (suc (length x.past))))
           (λ (u : (q ≢ o) × (slice_get rows.chains q ≡ Some z)).
-          inr (z, u.1, (row, p, le, lt, subst (λ (h : List Entry). In f h) (history_else q row p u.0 (in_procs p lt)) is_in)))
+          inr (z, u.1, (row, p, le, lt, subst (λ (h : List (Entry O R)). In f h) (history_else q row p u.0 (in_procs p lt)) is_in)))
           (at_set rows.chains o q y z is);
     }
 
@@ -264,18 +264,18 @@ module _ {S L P : Type 0} (F : Layouts S L P) (laws : AreLaws F) (declared : Lis
         0,
         le_refl (suc (length x.past)),
         laws.some,
-        subst (λ (h : List Entry). In e h)
+        subst (λ (h : List (Entry O R)). In e h)
             (sym (history_after (suc (length x.past)) 0 (le_refl (suc (length x.past))) laws.some ∙ begun_here e (suc (length x.past)) (history_in s o) 0))
             (inl refl),
       );
     }
 
-    abbrev drawing : Turns
+    abbrev drawing : Turns O R
     drawing = change_caller (caller_drawn e) s.turns c
 
     lists : lists_of t ≡ set (lists_of s) c (mine s c ++ e ∷ [])
     lists =
-        ap (map (λ (z : Caller). z.mine))
+        ap (map (λ (z : Caller O R). z.mine))
         (callers-change_cells cell_closed (change_cells (cell_begun e) drawing onto) from ∙ callers-change_cells (cell_begun e) drawing onto)
         ∙ lists_drawn s.turns.callers c e
 
@@ -298,10 +298,10 @@ module _ {S L P : Type 0} (F : Layouts S L P) (laws : AreLaws F) (declared : Lis
 
   -- the object's rows before and after
   pub record IsHanded : Type 0 where
-    pub chain : Chain L P
+    pub chain : Chain L P O R
     pub was : AreRowsOf F declaration s o chain
     pub is : AreRowsOf F declaration t o (handed F chain layout e)
-    pub others : (q : ℕ) (other : L) (z : Chain L P) → q ≢ o → AreRowsOf F other s q z → AreRowsOf F other t q z
+    pub others : (q : ℕ) (other : L) (z : Chain L P O R) → q ≢ o → AreRowsOf F other s q z → AreRowsOf F other t q z
 
   pub handed_rows : IsHanded
   handed_rows =

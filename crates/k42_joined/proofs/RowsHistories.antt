@@ -22,8 +22,8 @@ use Rattle.k42_joined.proofs.LocksLives.{IsWaiting, waiting, cell_begins}
 use Rattle.k42_joined.specs.Locks.{AreOfLives}
 
 -- histories that are the same at the rows that there are
-module _ {S L P : Type 0} (F : Layouts S L P) (old new : ℕ → ℕ → List Entry) where
-  past_left : (past : List (Turn L P)) → ((row cell : ℕ) → row < length past → cell < F.procs → new row cell ≡ old row cell)
+module _ {S L P O R : Type 0} (F : Layouts S L P O R) (old new : ℕ → ℕ → List (Entry O R)) where
+  past_left : (past : List (Turn L P O R)) → ((row cell : ℕ) → row < length past → cell < F.procs → new row cell ≡ old row cell)
       → PastLeaves F old past → PastLeaves F new past
   past_left [] same left = tt
   past_left (turn ∷ past) same left = (
@@ -31,7 +31,7 @@ module _ {S L P : Type 0} (F : Layouts S L P) (old new : ℕ → ℕ → List En
     past_left past (λ row cell less lt. same row cell (omega arith) lt) left.1,
   )
 
-  pub fits_same : (declared : L) (o : ℕ) (chain : Chain L P)
+  pub fits_same : (declared : L) (o : ℕ) (chain : Chain L P O R)
       → ((row cell : ℕ) → row ≤ length chain.past → cell < F.procs → new row cell ≡ old row cell)
       → Fits F declared o old chain → Fits F declared o new chain
   fits_same declared o chain same fits = record {
@@ -43,30 +43,30 @@ module _ {S L P : Type 0} (F : Layouts S L P) (old new : ℕ → ℕ → List En
   }
 
 -- the history of a cell in one of its lives
-abbrev pub at_life : Cell → ℕ → List Entry
+abbrev pub at_life : {O R : Type 0} → Cell O R → ℕ → List (Entry O R)
 at_life x k = get_or (histories_of x) k []
 
-pub at_present_life : (x : Cell) (k : ℕ) → length x.past ≡ k → at_life x k ≡ x.history
+pub at_present_life : {O R : Type 0} (x : Cell O R) (k : ℕ) → length x.past ≡ k → at_life x k ≡ x.history
 at_present_life x k long = get_or_push x.past x.history [] k long
 
-pub at_past_life : (x y : Cell) (k : ℕ) → y.past ≡ x.past → k < length x.past → at_life y k ≡ at_life x k
+pub at_past_life : {O R : Type 0} (x y : Cell O R) (k : ℕ) → y.past ≡ x.past → k < length x.past → at_life y k ≡ at_life x k
 at_past_life x y k same less =
     get_or_append_left y.past (y.history ∷ []) [] k (rw same less)
     ∙ (ap (λ past. get_or past k []) same ∙ sym (get_or_append_left x.past (x.history ∷ []) [] k less))
 
 -- a cell that was told of an entry, or was left
-pub told_present : (e : Entry) (x : Cell) (k : ℕ) (b : Bool) → length x.past ≡ k
+pub told_present : {O R : Type 0} (e : Entry O R) (x : Cell O R) (k : ℕ) (b : Bool) → length x.past ≡ k
     → at_life (cond b (cell_told e x) x) k ≡ cond b (at_life x k ++ e ∷ []) (at_life x k)
 told_present e x k true long =
     at_present_life (cell_told e x) k long ∙ ap (λ history. history ++ e ∷ []) (sym (at_present_life x k long))
 told_present e x k false long = refl
 
-pub told_past : (e : Entry) (x : Cell) (k : ℕ) (b : Bool) → k < length x.past → at_life (cond b (cell_told e x) x) k ≡ at_life x k
+pub told_past : {O R : Type 0} (e : Entry O R) (x : Cell O R) (k : ℕ) (b : Bool) → k < length x.past → at_life (cond b (cell_told e x) x) k ≡ at_life x k
 told_past e x k true less = at_past_life x (cell_told e x) k refl less
 told_past e x k false less = refl
 
 -- a cell whose next life was begun has its former histories
-begun_past_as : (i : ℕ) (y : Cell) (e : Entry) (closed : Bool) (k : ℕ) → IsWaiting i y closed → k < (i + 1) / 2
+begun_past_as : {O R : Type 0} (i : ℕ) (y : Cell O R) (e : Entry O R) (closed : Bool) (k : ℕ) → IsWaiting i y closed → k < (i + 1) / 2
     → at_life (cond closed (cell_told e (cell_opened y)) (cell_told e y)) k ≡ at_life y k
 begun_past_as i y e true k is less =
     let past = is.past in
@@ -75,14 +75,14 @@ begun_past_as i y e true k is less =
 begun_past_as i y e false k is less =
     let past = is.past in at_past_life y (cell_told e y) k refl (omega (arith, less, past))
 
-pub begun_past : (i : ℕ) (x y : Cell) (e : Entry) (k : ℕ) → AreOfLives i false x y → k < (i + 1) / 2
+pub begun_past : {O R : Type 0} (i : ℕ) (x y : Cell O R) (e : Entry O R) (k : ℕ) → AreOfLives i false x y → k < (i + 1) / 2
     → at_life (cell_begun e y) k ≡ at_life y k
 begun_past i x y e k are less =
     let is = waiting i x y are in
     subst (λ b. at_life (cond b (cell_told e (cell_opened y)) (cell_told e y)) k ≡ at_life y k) (sym is.closed_is)
     (begun_past_as i y e (not (eqb i 0)) k is less)
 
-pub begun_present : (i : ℕ) (x y : Cell) (e : Entry) → AreOfLives i false x y → at_life (cell_begun e y) ((i + 1) / 2) ≡ e ∷ []
+pub begun_present : {O R : Type 0} (i : ℕ) (x y : Cell O R) (e : Entry O R) → AreOfLives i false x y → at_life (cell_begun e y) ((i + 1) / 2) ≡ e ∷ []
 begun_present i x y e are =
     let begun = cell_begins i x y e are in at_present_life (cell_begun e y) ((i + 1) / 2) begun.past ∙ begun.history
 

@@ -25,8 +25,8 @@ map-set f (x ∷ xs) zero a = refl
 map-set f (x ∷ xs) (suc c) a = ap (λ ys. f x ∷ ys) (map-set f xs c a)
 
 -- one caller's list with one more entry
-module _ (lists : List (List Entry)) (c : ℕ) (mine : List Entry) (e : Entry) (here : slice_get lists c ≡ Some mine) where
-  abbrev longer : List (List Entry)
+module _ {O R : Type 0} (lists : List (List (Entry O R))) (c : ℕ) (mine : List (Entry O R)) (e : Entry O R) (here : slice_get lists c ≡ Some mine) where
+  abbrev longer : List (List (Entry O R))
   longer = set lists c (mine ++ e ∷ [])
 
   pub some_new : InSome longer e
@@ -37,7 +37,7 @@ module _ (lists : List (List Entry)) (c : ℕ) (mine : List Entry) (e : Entry) (
     has = in_right e mine (e ∷ []) (inl refl);
   }
 
-  pub some_old : (f : Entry) → InSome lists f → InSome longer f
+  pub some_old : (f : Entry O R) → InSome lists f → InSome longer f
   some_old f is =
       ⊎_elim
       (λ (same : is.place ≡ c).
@@ -46,7 +46,7 @@ module _ (lists : List (List Entry)) (c : ℕ) (mine : List Entry) (e : Entry) (
         place = c;
         list = mine ++ e ∷ [];
         there = slice_get-set_here lists c (mine ++ e ∷ []) (slice_get_within lists c mine here);
-        has = in_left f mine (e ∷ []) (subst (λ (xs : List Entry). In f xs) own is.has);
+        has = in_left f mine (e ∷ []) (subst (λ (xs : List (Entry O R)). In f xs) own is.has);
       })
       (λ (other : is.place ≢ c). record {
         place = is.place;
@@ -56,44 +56,44 @@ module _ (lists : List (List Entry)) (c : ℕ) (mine : List Entry) (e : Entry) (
       })
       (cases_eq is.place c)
 
-  pub some_split : (f : Entry) → InSome longer f → (f ≡ e) ⊎ InSome lists f
+  pub some_split : (f : Entry O R) → InSome longer f → (f ≡ e) ⊎ InSome lists f
   some_split f is =
       ⊎_elim
       (λ (t : (is.place ≡ c) × (mine ++ e ∷ [] ≡ is.list)).
       ⊎_elim (λ old. inr (record { place = c; list = mine; there = here; has = old }))
       (λ new. ⊎_elim (λ same. inl same) (λ none. absurd none) new)
-      (in-append f mine (e ∷ []) (subst (λ (xs : List Entry). In f xs) (sym t.1) is.has)))
+      (in-append f mine (e ∷ []) (subst (λ (xs : List (Entry O R)). In f xs) (sym t.1) is.has)))
       (λ (t : (is.place ≢ c) × (slice_get lists is.place ≡ Some is.list)).
       inr (record { place = is.place; list = is.list; there = t.1; has = is.has }))
       (at_set lists c is.place (mine ++ e ∷ []) is.list is.there)
 
 -- what a step does to the histories at the rows that there are
-pub record Grows {L P : Type 0} (procs : ℕ) (old new : ℕ → ℕ → ℕ → List Entry) (chains newer : List (Chain L P)) (e : Entry) : Type 0 where
+pub record Grows {L P O R : Type 0} (procs : ℕ) (old new : ℕ → ℕ → ℕ → List (Entry O R)) (chains newer : List (Chain L P O R)) (e : Entry O R) : Type 0 where
   -- every chain goes on, and none is new
-  pub chain : (o : ℕ) (x : Chain L P) → slice_get chains o ≡ Some x → (y : Chain L P) × (slice_get newer o ≡ Some y) × (length x.past ≤ length y.past)
+  pub chain : (o : ℕ) (x : Chain L P O R) → slice_get chains o ≡ Some x → (y : Chain L P O R) × (slice_get newer o ≡ Some y) × (length x.past ≤ length y.past)
   pub kept :
-      (o row p : ℕ) (x : Chain L P) (f : Entry) → slice_get chains o ≡ Some x → row ≤ length x.past → p < procs
+      (o row p : ℕ) (x : Chain L P O R) (f : Entry O R) → slice_get chains o ≡ Some x → row ≤ length x.past → p < procs
       → In f (old o row p) → In f (new o row p)
   pub split :
-      (o row p : ℕ) (y : Chain L P) (f : Entry) → slice_get newer o ≡ Some y → row ≤ length y.past → p < procs
-      → In f (new o row p) → (f ≡ e) ⊎ ((x : Chain L P) × (slice_get chains o ≡ Some x) × InRows procs (length x.past) (old o) f)
+      (o row p : ℕ) (y : Chain L P O R) (f : Entry O R) → slice_get newer o ≡ Some y → row ≤ length y.past → p < procs
+      → In f (new o row p) → (f ≡ e) ⊎ ((x : Chain L P O R) × (slice_get chains o ≡ Some x) × InRows procs (length x.past) (old o) f)
 
 -- the entry stands in the lists and, where it passes, in the histories
-pub grown_those : {L P : Type 0} (procs : ℕ) (passes : Act → Answer → Bool) (lists : List (List Entry)) (c : ℕ) (mine : List Entry) (e : Entry)
-    → slice_get lists c ≡ Some mine → (old new : ℕ → ℕ → ℕ → List Entry) (chains newer : List (Chain L P)) → Grows procs old new chains newer e
+pub grown_those : {L P O R : Type 0} (procs : ℕ) (passes : Act O → Answer R → Bool) (lists : List (List (Entry O R))) (c : ℕ) (mine : List (Entry O R)) (e : Entry O R)
+    → slice_get lists c ≡ Some mine → (old new : ℕ → ℕ → ℕ → List (Entry O R)) (chains newer : List (Chain L P O R)) → Grows procs old new chains newer e
     → (passes e.act e.answer ≡ true → InHistory procs new newer e) → AreThose procs passes lists old chains
     → AreThose procs passes (set lists c (mine ++ e ∷ [])) new newer
-grown_those procs passes lists c mine e here old new chains newer grows stands those = record {
+grown_those {O} {R} procs passes lists c mine e here old new chains newer grows stands those = record {
   placed = λ f is pass. ⊎_elim
-      (λ (same : f ≡ e). subst (λ (g : Entry). InHistory procs new newer g) (sym same) (stands (subst (λ (g : Entry). passes g.act g.answer ≡ true) same pass)))
+      (λ (same : f ≡ e). subst (λ (g : Entry O R). InHistory procs new newer g) (sym same) (stands (subst (λ (g : Entry O R). passes g.act g.answer ≡ true) same pass)))
       (λ was. go_on f (those.placed f was pass)) (some_split lists c mine e here f is);
   given = λ o y f at is pass. let row = is.0 in let p = is.1 in
       ⊎_elim
-      (λ (same : f ≡ e). subst (λ (g : Entry). InSome (set lists c (mine ++ e ∷ [])) g) (sym same) (some_new lists c mine e here))
+      (λ (same : f ≡ e). subst (λ (g : Entry O R). InSome (set lists c (mine ++ e ∷ [])) g) (sym same) (some_new lists c mine e here))
       (λ was. some_old lists c mine e here f (those.given o was.0 f was.1 was.2 pass))
       (grows.split o row p y f at is.2 is.3 is.4);
 } where
-  go_on : (f : Entry) → InHistory procs old chains f → InHistory procs new newer f
+  go_on : (f : Entry O R) → InHistory procs old chains f → InHistory procs new newer f
   go_on f was =
       let next = grows.chain f.object was.chain was.there in
       let is = was.has in

@@ -94,7 +94,7 @@ newest_is tag_of [] declaration layout tag is first = absurd (cc)
 newest_is tag_of (newest ∷ layouts) declaration layout tag is first =
     ap tag_of (sym (same_Some newest layout first)) ∙ eqb-true (tag_of newest) tag is
 
-module _ {S L P : Type 0} (F : Layouts S L P) (declared : List L) (s : Joined L)
+module _ {S L P O R : Type 0} (F : Layouts S L P O R) (declared : List L) (s : Joined L O R)
     (sound : phases.IsSound s.phases) (turns_sound : turns.IsSound s.turns) (locked : AreLocked s) (rows : Fitting F declared s) where
   still_for : (event : Event) → caller_of event < many_callers s → AreFor F (effect s (AtPhases event))
   still_for event there =

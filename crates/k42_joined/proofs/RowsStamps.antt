@@ -35,36 +35,36 @@ all_placed P [] each = tt
 all_placed P (x ∷ xs) each = (each x (inl refl), all_placed P xs (λ e is. each e (inr is)))
 
 -- the caller whose list is at a place
-pub at_list : (callers : List Caller) (d : ℕ) (list : List Entry) → slice_get (map (λ (x : Caller). x.mine) callers) d ≡ Some list
+pub at_list : {O R : Type 0} (callers : List (Caller O R)) (d : ℕ) (list : List (Entry O R)) → slice_get (map (λ (x : Caller O R). x.mine) callers) d ≡ Some list
     → (d < length callers) × (drawn_by callers d ≡ list)
 at_list [] d list at = absurd (cc)
 at_list (x ∷ xs) zero list at = (omega arith, same_Some x.mine list at)
 at_list (x ∷ xs) (suc d) list at = let rest = at_list xs d list at in let lt = rest.0 in (omega (arith, lt), rest.1)
 
-module _ (t : Turns) (sound : IsSound t) where
+module _ {O R : Type 0} (t : Turns O R) (sound : IsSound t) where
   -- an entry of a caller's list is the caller's
-  pub own_caller : (d : ℕ) (f : Entry) → d < length t.callers → In f (drawn_by t.callers d) → f.caller ≡ d
+  pub own_caller : (d : ℕ) (f : Entry O R) → d < length t.callers → In f (drawn_by t.callers d) → f.caller ≡ d
   own_caller d f there is =
       let placed = in_place f (drawn_by t.callers d) is in
       ((sound.callers d (caller_at t d) (slice_get-get_or t.callers d fresh_caller there)).own placed.place f placed.at).caller
 
   -- an entry of some list is of its caller's list
-  pub in_own : (f : Entry) → InSome (map (λ (x : Caller). x.mine) t.callers) f → (f.caller < length t.callers) × In f (drawn_by t.callers f.caller)
+  pub in_own : (f : Entry O R) → InSome (map (λ (x : Caller O R). x.mine) t.callers) f → (f.caller < length t.callers) × In f (drawn_by t.callers f.caller)
   in_own f is =
       let at = at_list t.callers is.place is.list is.there in
-      let here : In f (drawn_by t.callers is.place) = subst (λ (xs : List Entry). In f xs) (sym at.1) is.has in
+      let here : In f (drawn_by t.callers is.place) = subst (λ (xs : List (Entry O R)). In f xs) (sym at.1) is.has in
       let own = own_caller is.place f at.0 here in
       (rw own at.0, subst (λ d. In f (drawn_by t.callers d)) (sym own) here)
 
-  module _ (c : ℕ) (cells : List ℕ) (e : Entry) (next : IsNext t c cells e) where
-    pub above_own : (f : Entry) → In f (drawn_by t.callers c) → f.stamp < e.stamp
+  module _ (c : ℕ) (cells : List ℕ) (e : Entry O R) (next : IsNext t c cells e) where
+    pub above_own : (f : Entry O R) → In f (drawn_by t.callers c) → f.stamp < e.stamp
     above_own f is =
         let placed = in_place f (drawn_by t.callers c) is in
         let most = last-above (drawn_by t.callers c) placed.place f (lists-rise t c sound) placed.at in
         let less = above_mine t c cells e sound next in
         omega (arith, most, less)
 
-    pub above_cell : (n : ℕ) → names cells n ≡ true → (f : Entry) → In f (cell_at t n).history → f.stamp < e.stamp
+    pub above_cell : (n : ℕ) → names cells n ≡ true → (f : Entry O R) → In f (cell_at t n).history → f.stamp < e.stamp
     above_cell n named f is =
         let placed = in_place f (cell_at t n).history is in
         let most = last-above (cell_at t n).history placed.place f (history_of-cell t n sound).rising placed.at in

@@ -38,7 +38,7 @@ inside_there s sound c o i there inside = by_place (visitor_at s c).place (visit
   by_place (Tracked q j) at inside = found q j at.0 inside
   by_place (Blocked q) at inside = absurd inside
 
-module _ {S L P : Type 0} (F : Layouts S L P) (laws : AreLaws F) (declared : List L) (s : Joined L) (sound : IsSound F declared s) where
+module _ {S L P O R : Type 0} (F : Layouts S L P O R) (laws : AreLaws F) (declared : List L) (s : Joined L O R) (sound : IsSound F declared s) where
   mover_of : (o : ℕ) → o < many_objects s → is_handed s o ≡ true → IsMover F laws declared s sound.cells.turns sound.cells.locks sound.cells.rows sound.answers o
   mover_of o named handed = handed_moved F laws declared s sound.cells.turns sound.cells.locks sound.cells.rows sound.answers o named handed
 

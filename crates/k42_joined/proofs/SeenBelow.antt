@@ -31,25 +31,25 @@ use Rattle.k42_joined.proofs.RowsDraw.{core_draw}
 use Rattle.k42_joined.proofs.RowsStamps.{in_place, above_own, above_cell}
 
 -- what stands before an element stands at a lower place
-before_place : (before : List Entry) (own : Entry) (after : List Entry) → slice_get (before ++ own ∷ after) (length before) ≡ Some own
+before_place : {O R : Type 0} (before : List (Entry O R)) (own : Entry O R) (after : List (Entry O R)) → slice_get (before ++ own ∷ after) (length before) ≡ Some own
 before_place [] own after = refl
 before_place (b ∷ before) own after = before_place before own after
 
-front_place : (before rest : List Entry) (i : ℕ) (f : Entry) → slice_get before i ≡ Some f → (i < length before) × (slice_get (before ++ rest) i ≡ Some f)
+front_place : {O R : Type 0} (before rest : List (Entry O R)) (i : ℕ) (f : Entry O R) → slice_get before i ≡ Some f → (i < length before) × (slice_get (before ++ rest) i ≡ Some f)
 front_place [] rest i f at = absurd (cc)
 front_place (b ∷ before) rest zero f at = (omega arith, at)
 front_place (b ∷ before) rest (suc i) f at = let more = front_place before rest i f at in let lt = more.0 in (omega (arith, lt), more.1)
 
-split_below : (before : List Entry) (own : Entry) (after : List Entry) (f : Entry) → IsRising (before ++ own ∷ after) → In f before → f.stamp < own.stamp
+split_below : {O R : Type 0} (before : List (Entry O R)) (own : Entry O R) (after : List (Entry O R)) (f : Entry O R) → IsRising (before ++ own ∷ after) → In f before → f.stamp < own.stamp
 split_below before own after f rising is =
     let placed = in_place f before is in
     let there = front_place before (own ∷ after) placed.place f placed.at in
     rising placed.place (length before) f own there.0 there.1 (before_place before own after)
 
-module _ {S L P : Type 0} (F : Layouts S L P) (laws : AreLaws F) (declared : List L) (s : Joined L) (sound : IsSound F declared s) (c : ℕ)
+module _ {S L P O R : Type 0} (F : Layouts S L P O R) (laws : AreLaws F) (declared : List L) (s : Joined L O R) (sound : IsSound F declared s) (c : ℕ)
     (there : c < many_callers s) where
   -- what stood before an own entry is below it
-  pub stood_below : (f : Entry) → (is : StoodBefore s c f) → f.stamp < is.own.stamp
+  pub stood_below : (f : Entry O R) → (is : StoodBefore s c f) → f.stamp < is.own.stamp
   stood_below f is =
       split_below is.before is.own is.after f
       (subst IsRising is.split (histories-rise s.turns is.number is.life is.history sound.cells.turns is.there)) is.stood
@@ -57,23 +57,23 @@ module _ {S L P : Type 0} (F : Layouts S L P) (laws : AreLaws F) (declared : Lis
   -- what stood in the rows before the one that an own swap began is below it
 
   module _ (o : ℕ) (declaration : L) where
-    last_below : (turn : Turn L P) (past : List (Turn L P)) → IsTurn F declaration o past turn → Leaves F (history_in s o (length past)) past turn.row
-        → (p : ℕ) (f : Entry) → p < F.procs → In f (history_in s o (length past) p) → f.stamp < turn.done.stamp
+    last_below : (turn : Turn L P O R) (past : List (Turn L P O R)) → IsTurn F declaration o past turn → Leaves F (history_in s o (length past)) past turn.row
+        → (p : ℕ) (f : Entry O R) → p < F.procs → In f (history_in s o (length past) p) → f.stamp < turn.done.stamp
     last_below turn past is left p f lt inside =
         ⊎_elim
         (λ (first : In f (first_of past)). first_low past turn.done f is.higher first)
         (λ (entry : In f (those_at F turn.row.layout p turn.row.entries)).
-        all_at (λ (g : Entry). g.stamp < turn.done.stamp) turn.row.entries f is.last
+        all_at (λ (g : Entry O R). g.stamp < turn.done.stamp) turn.row.entries f is.last
         (in-from_filter (λ g. touches (reach_of F turn.row.layout g) p) f turn.row.entries entry).0)
-        (in-append f (first_of past) (those_at F turn.row.layout p turn.row.entries) (subst (λ (h : List Entry). In f h) (left p lt) inside))
+        (in-append f (first_of past) (those_at F turn.row.layout p turn.row.entries) (subst (λ (h : List (Entry O R)). In f h) (left p lt) inside))
       where
-        first_low : (past : List (Turn L P)) (done f : Entry) → IsAbove past done → In f (first_of past) → f.stamp < done.stamp
+        first_low : (past : List (Turn L P O R)) (done f : Entry O R) → IsAbove past done → In f (first_of past) → f.stamp < done.stamp
         first_low [] done f above none = absurd none
-        first_low (turn ∷ past) done f above is = ⊎_elim (λ (same : f ≡ turn.done). let stamp = ap (λ (g : Entry). g.stamp) same in omega (arith, above, stamp)) (λ none. absurd none) is
+        first_low (turn ∷ past) done f above is = ⊎_elim (λ (same : f ≡ turn.done). let stamp = ap (λ (g : Entry O R). g.stamp) same in omega (arith, above, stamp)) (λ none. absurd none) is
 
-    below_done : (turn : Turn L P) (past : List (Turn L P)) → IsTurn F declaration o past turn → ArePast F declaration o past
+    below_done : (turn : Turn L P O R) (past : List (Turn L P O R)) → IsTurn F declaration o past turn → ArePast F declaration o past
         → Leaves F (history_in s o (length past)) past turn.row → PastLeaves F (history_in s o) past
-        → (row p : ℕ) (f : Entry) → row ≤ length past → p < F.procs → In f (history_in s o row p) → f.stamp < turn.done.stamp
+        → (row p : ℕ) (f : Entry O R) → row ≤ length past → p < F.procs → In f (history_in s o row p) → f.stamp < turn.done.stamp
     below_done turn [] is turns left before row p f le lt inside =
         let first : row ≡ 0 = omega (arith, le) in
         last_below turn [] is left p f lt (subst (λ r. In f (history_in s o r p)) first inside)
@@ -86,9 +86,9 @@ module _ {S L P : Type 0} (F : Layouts S L P) (laws : AreLaws F) (declared : Lis
         omega (arith, low, high))
         (cases_eq row (suc (length past)))
 
-    in_done : (past : List (Turn L P)) (next : Row L P) → IsRow F declaration o past next → ArePast F declaration o past → PastLeaves F (history_in s o) past
-        → (e : Entry) (n : ℕ) → (answer : e.answer ≡ Swapped n) → (call : is_call e.act ≡ false) → In e (past_entries past)
-        → (row p : ℕ) (f : Entry) → row < n → p < F.procs → In f (history_in s o row p) → f.stamp < e.stamp
+    in_done : (past : List (Turn L P O R)) (next : Row L P O R) → IsRow F declaration o past next → ArePast F declaration o past → PastLeaves F (history_in s o) past
+        → (e : Entry O R) (n : ℕ) → (answer : e.answer ≡ Swapped n) → (call : is_call e.act ≡ false) → In e (past_entries past)
+        → (row p : ℕ) (f : Entry O R) → row < n → p < F.procs → In f (history_in s o row p) → f.stamp < e.stamp
     in_done [] next is turns left e n answer call inside row p f less lt has = absurd inside
     in_done (turn ∷ past) next is turns left e n answer call inside row p f less lt has =
         ⊎_elim
@@ -99,13 +99,13 @@ module _ {S L P : Type 0} (F : Layouts S L P) (laws : AreLaws F) (declared : Lis
         (λ (same : e ≡ turn.done).
         let number = same_swap F declaration o e n answer call (suc (length past)) turn.done same is.begun.answer in
         let low = below_done turn past turns.0 turns.1 left.0 left.1 row p f (omega (arith, less, number)) lt has in
-        let stamp = ap (λ (g : Entry). g.stamp) same in
+        let stamp = ap (λ (g : Entry O R). g.stamp) same in
         omega (arith, low, stamp))
         (λ none. absurd none) last)
         (in-append e turn.row.entries (turn.done ∷ []) here))
         (in-append e (past_entries past) (turn.row.entries ++ turn.done ∷ []) inside)
 
-  pub handed_below : (f : Entry) → (is : WasHanded s c f) → f.stamp < is.own.stamp
+  pub handed_below : (f : Entry O R) → (is : WasHanded s c f) → f.stamp < is.own.stamp
   handed_below f is =
       let own = (sound.answers c there).each is.own is.drawn in
       let at = rows_at F laws declared s sound.cells.turns sound.cells.locks sound.cells.rows sound.answers is.own.object own.there in
@@ -121,8 +121,8 @@ module _ {S L P : Type 0} (F : Layouts S L P) (laws : AreLaws F) (declared : Lis
       (in-append is.own (past_entries at.chain.past) at.chain.row.entries inside)
 
   -- the entry that is drawn
-  module _ (cells : List ℕ) (e : Entry) (next : IsNext s.turns c cells e) where
-    seen_below : (f : Entry) → HasSeen s c f → f.stamp < e.stamp
+  module _ (cells : List ℕ) (e : Entry O R) (next : IsNext s.turns c cells e) where
+    seen_below : (f : Entry O R) → HasSeen s c f → f.stamp < e.stamp
     seen_below f seen =
         ⊎_elim (λ (own : In f (mine s c)). above_own s.turns sound.cells.turns c cells e next f own)
         (λ other. ⊎_elim
@@ -136,20 +136,20 @@ module _ {S L P : Type 0} (F : Layouts S L P) (laws : AreLaws F) (declared : Lis
         omega (arith, low, high)) other)
         seen
 
-    all_below : (f : Entry) → HasSeen s c f ⊎ StandsAt s cells f → f.stamp < e.stamp
+    all_below : (f : Entry O R) → HasSeen s c f ⊎ StandsAt s cells f → f.stamp < e.stamp
     all_below f known =
         ⊎_elim (λ seen. seen_below f seen)
         (λ (at : StandsAt s cells f). above_cell s.turns sound.cells.turns c cells e next at.number at.named f at.stands) known
 
-module _ {S L P : Type 0} (F : Layouts S L P) (laws : AreLaws F) (declared : List L) (s : Joined L) (sound : IsSound F declared s) where
-  drawn_above : (c : ℕ) (d drawn : Drawn) (g : Entry) → c < many_callers s → IsNext s.turns c d.cells d.entry → Some d ≡ Some drawn
+module _ {S L P O R : Type 0} (F : Layouts S L P O R) (laws : AreLaws F) (declared : List L) (s : Joined L O R) (sound : IsSound F declared s) where
+  drawn_above : (c : ℕ) (d drawn : Drawn O R) (g : Entry O R) → c < many_callers s → IsNext s.turns c d.cells d.entry → Some d ≡ Some drawn
       → HasSeen s c g ⊎ StandsAt s drawn.cells g → g.stamp < drawn.entry.stamp
   drawn_above c d drawn g there next is known =
       let same = same_Some d drawn is in
       all_below F laws declared s sound c there drawn.cells drawn.entry
-      (subst (λ (x : Drawn). IsNext s.turns c x.cells x.entry) same next) g known
+      (subst (λ (x : Drawn O R). IsNext s.turns c x.cells x.entry) same next) g known
 
-  pub seen_is_below : (event : Event L) (drawn : Drawn) (f : Entry) → IsPossible F declared s event → drawn_by event ≡ Some drawn
+  pub seen_is_below : (event : Event L O R) (drawn : Drawn O R) (f : Entry O R) → IsPossible F declared s event → drawn_by event ≡ Some drawn
       → HasSeen s (caller_of event) f ⊎ StandsAt s drawn.cells f → f.stamp < drawn.entry.stamp
   seen_is_below (AtCells (Draw c ns entry)) drawn f possible is known =
       drawn_above c (record { cells = ns; entry = entry }) drawn f possible.caller (core_draw s.turns c ns entry possible.may.core).next is known

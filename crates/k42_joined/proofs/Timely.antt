@@ -41,23 +41,23 @@ module _ {E : Type 0} where
       (split_push bs after xs f e tail)
 
 -- what an earlier refusal asks of a later entry
-pub record IsLaterFor (m : List Entry) (e : Entry) : Type 0 where
-  pub busy : (f : Entry) (number : ℕ) → In f m → f.answer ≡ Busy number → IsOwn f e → number ≤ e.incarnation + 1
-  pub abandoned : (f : Entry) (number : ℕ) → In f m → f.answer ≡ Abandoned number → IsOwn f e → number ≤ e.incarnation + 1
+pub record IsLaterFor {O R : Type 0} (m : List (Entry O R)) (e : Entry O R) : Type 0 where
+  pub busy : (f : Entry O R) (number : ℕ) → In f m → f.answer ≡ Busy number → IsOwn f e → number ≤ e.incarnation + 1
+  pub abandoned : (f : Entry O R) (number : ℕ) → In f m → f.answer ≡ Abandoned number → IsOwn f e → number ≤ e.incarnation + 1
 
 -- what a refusal asks of the entries before it
-pub record IsTimelyLast (m : List Entry) (e : Entry) (number : ℕ) : Type 0 where
+pub record IsTimelyLast {O R : Type 0} (m : List (Entry O R)) (e : Entry O R) (number : ℕ) : Type 0 where
   pub incarnation : e.incarnation + 1 ≡ number
-  pub earlier : (f : Entry) → In f m → IsOwn e f → IsNotPast number f
+  pub earlier : (f : Entry O R) → In f m → IsOwn e f → IsNotPast number f
 
-timely_last : (m : List Entry) (e : Entry) (number : ℕ) → IsTimelyLast m e number → IsTimely m e [] number
+timely_last : {O R : Type 0} (m : List (Entry O R)) (e : Entry O R) (number : ℕ) → IsTimelyLast m e number → IsTimely m e [] number
 timely_last m e number is = record {
   incarnation = is.incarnation;
   earlier = All-from_recursion (λ other. IsOwn e other → IsNotPast number other) m (all_placed (λ other. IsOwn e other → IsNotPast number other) m is.earlier);
   later = All-from_recursion (λ other. IsOwn e other → number ≤ other.incarnation + 1) [] tt;
 }
 
-timely_more : (before rest : List Entry) (f e : Entry) (number : ℕ) → (IsOwn f e → number ≤ e.incarnation + 1) → IsTimely before f rest number
+timely_more : {O R : Type 0} (before rest : List (Entry O R)) (f e : Entry O R) (number : ℕ) → (IsOwn f e → number ≤ e.incarnation + 1) → IsTimely before f rest number
     → IsTimely before f (rest ++ e ∷ []) number
 timely_more before rest f e number late is = record {
   incarnation = is.incarnation;
@@ -66,16 +66,16 @@ timely_more before rest f e number late is = record {
       (All-from_recursion (λ other. IsOwn f other → number ≤ other.incarnation + 1) (e ∷ []) (late, tt));
 }
 
-pub timely_push : (m : List Entry) (e : Entry) → AreTimely m → IsLaterFor m e
+pub timely_push : {O R : Type 0} (m : List (Entry O R)) (e : Entry O R) → AreTimely m → IsLaterFor m e
     → ((number : ℕ) → e.answer ≡ Busy number → IsTimelyLast m e number) → ((number : ℕ) → e.answer ≡ Abandoned number → IsTimelyLast m e number)
     → AreTimely (m ++ e ∷ [])
-timely_push m e timely late busy abandoned before f after cut =
+timely_push {O} {R} m e timely late busy abandoned before f after cut =
     ⊎_elim {C = Stands before f after}
     (λ (last : IsLast before after m f e).
     subst (λ b. Stands b f after) (sym last.front) (subst (λ g. Stands m g after) (sym last.here) (subst (λ a. Stands m e a) (sym last.none)
     ((λ number is. timely_last m e number (busy number is)), (λ number is. timely_last m e number (abandoned number is))))))
     (λ (more : IsBeforeLast before after m f e).
-    let inside : In f m = subst (λ (es : List Entry). In f es) (sym more.front) (in_right f before (f ∷ more.rest) (inl refl)) in
+    let inside : In f m = subst (λ (es : List (Entry O R)). In f es) (sym more.front) (in_right f before (f ∷ more.rest) (inl refl)) in
     let old = timely before f more.rest more.front in
     subst (λ a. Stands before f a) (sym more.back) (
       (λ number is. timely_more before more.rest f e number (late.busy f number inside is) (old.0 number is)),
@@ -83,7 +83,7 @@ timely_push m e timely late busy abandoned before f after cut =
     ))
     (split_push before after m f e cut)
   where
-    Stands : List Entry → Entry → List Entry → Type 0
+    Stands : List (Entry O R) → Entry O R → List (Entry O R) → Type 0
     Stands before f after =
         ((number : ℕ) → f.answer ≡ Busy number → IsTimely before f after number)
         × ((number : ℕ) → f.answer ≡ Abandoned number → IsTimely before f after number)

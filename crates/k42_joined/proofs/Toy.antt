@@ -36,7 +36,7 @@ reply value (Add n) = Done
 reply value Get = Number value
 reply value _ = Gone
 
-abbrev pub counter : OneThread ℕ
+abbrev pub counter : OneThread ℕ Op Reply
 counter = record { start = 0; takes = takes; after = after; reply = reply; swapped = ends_as 0; is_ended = λ value. false }
 
 -- the parts together
@@ -58,7 +58,7 @@ imported one_part procs value = value ∷ []
 imported spread zero value = []
 imported spread (suc more) value = value ∷ zeros more
 
-abbrev pub ways : Toy → Ways ℕ ℕ
+abbrev pub ways : Toy → Ways ℕ ℕ Op Reply
 ways layout = record {
   reach = reach layout;
   empty = λ procs cell. 0;
@@ -74,7 +74,7 @@ abbrev pub tag : Toy → ℕ
 tag one_part = 0
 tag spread = 1
 
-abbrev pub act : Toy → Act
+abbrev pub act : Toy → Act Op
 act one_part = Swap (Layout Shared)
 act spread = Swap (Layout Spread)
 
@@ -84,7 +84,7 @@ proc_of zero = 0
 proc_of (suc zero) = 1
 proc_of _ = 0
 
-abbrev pub F : Layouts ℕ Toy ℕ
+abbrev pub F : Layouts ℕ Toy ℕ Op Reply
 F = record {
   object_of = λ layout. counter;
   tag_of = tag;

@@ -5,8 +5,6 @@ use Rattle.k42_kinds.specs.declared.entry.Act.{Act}
 use Rattle.k42_kinds.specs.declared.entry.Act.TheVariants.{Call, Swap}
 use Rattle.k42_kinds.specs.declared.entry.Answer.TheVariants.{Replied}
 use Rattle.k42_kinds.specs.declared.entry.Entry.{Entry}
-use Rattle.k42_kinds.specs.declared.operation.Op.{Op}
-use Rattle.k42_kinds.specs.declared.operation.Reply.{Reply}
 use Rattle.k42_kinds.specs.Rows.{row_replied}
 use Rattle.phase_core.specs.State.{visitor_at, proc_of}
 use Rattle.k42_stamp.specs.Layouts.{Layouts}
@@ -25,7 +23,7 @@ first_cell [] = 0
 first_cell (n ∷ cells) = n
 
 -- what each drawn entry bears: its caller's processor, and the first cell at which it is drawn
-pub record Bears {L : Type 0} (s : Joined L) (c : ℕ) (cells : List ℕ) (entry : Entry) : Type 0 where
+pub record Bears {L O R : Type 0} (s : Joined L O R) (c : ℕ) (cells : List ℕ) (entry : Entry O R) : Type 0 where
   pub proc : entry.proc ≡ proc_of s.phases c
   pub cell : entry.cell ≡ first_cell cells
 
@@ -34,11 +32,11 @@ abbrev pub newest_layout : {L : Type 0} → List L → L → L
 newest_layout [] declaration = declaration
 newest_layout (layout ∷ layouts) declaration = layout
 
-module _ {S L P : Type 0} (F : Layouts S L P) (declared : List L) (s : Joined L) where
+module _ {S L P O R : Type 0} (F : Layouts S L P O R) (declared : List L) (s : Joined L O R) where
   -- A call is drawn inside its row, at the cells that the row's layout names. It is of the object's kind, bears
   -- the generation of its activity, and has the reply of the parts that the histories give. The row is the
   -- newest, since a row that was handed on has no open cell.
-  pub record IsCall (c : ℕ) (cells : List ℕ) (entry : Entry) (op : Op) : Type 0 where
+  pub record IsCall (c : ℕ) (cells : List ℕ) (entry : Entry O R) (op : O) : Type 0 where
     pub inside : is_inside (visitor_at s.phases c).place entry.object entry.incarnation ≡ true
     pub generation : entry.generation ≡ (caller_at s.phases.turns c).active
     pub declaration : L
@@ -48,16 +46,16 @@ module _ {S L P : Type 0} (F : Layouts S L P) (declared : List L) (s : Joined L)
         cells
         ≡ cells_reached (many_procs s) entry.object entry.incarnation
         (reach_of F (newest_layout (layouts_of s entry.object) declaration) entry)
-    pub reply : Reply
+    pub reply : R
     pub answer : entry.answer ≡ Replied reply
     pub replied :
-        (chain : Chain L P) → AreRowsOf F declaration s entry.object chain
+        (chain : Chain L P O R) → AreRowsOf F declaration s entry.object chain
         → row_replied (F.ways_of chain.row.layout) (parts_of F chain.row) op (reach_of F chain.row.layout entry)
         ≡ Some reply
 
   -- A swap whose caller found the object dead or at its last incarnation is drawn, with that answer, at
   -- the first cell of the present row.
-  pub record FoundOver (c : ℕ) (cells : List ℕ) (entry : Entry) : Type 0 where
+  pub record FoundOver (c : ℕ) (cells : List ℕ) (entry : Entry O R) : Type 0 where
     pub begun : (kept_of s c).begun ≡ Some entry.object
     pub found : (kept_of s c).found ≡ Some entry.answer
     pub over : tells_over entry.answer ≡ true
@@ -66,10 +64,10 @@ module _ {S L P : Type 0} (F : Layouts S L P) (declared : List L) (s : Joined L)
     pub generation : entry.generation ≡ None
 
   -- by the entry's act
-  abbrev pub IsDrawnAs : ℕ → List ℕ → Entry → Act → Type 0
+  abbrev pub IsDrawnAs : ℕ → List ℕ → Entry O R → Act O → Type 0
   IsDrawnAs c cells entry (Call op) = IsCall c cells entry op
   IsDrawnAs c cells entry (Swap to) = FoundOver c cells entry
 
-  pub record MayDraw (c : ℕ) (cells : List ℕ) (entry : Entry) : Type 0 where
+  pub record MayDraw (c : ℕ) (cells : List ℕ) (entry : Entry O R) : Type 0 where
     pub bears : Bears s c cells entry
     pub act : IsDrawnAs c cells entry entry.act

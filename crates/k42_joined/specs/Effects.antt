@@ -10,13 +10,13 @@ use Rattle.k42_joined.specs.State.{kept_of, keep, layouts_of}
 use Rattle.k42_joined.specs.Swapping.{kept_after_phases}
 use Rattle.k42_joined.specs.Refusals.{tells_abandoned}
 
-module _ {L : Type 0} (s : Joined L) where
+module _ {L O R : Type 0} (s : Joined L O R) where
   -- a caller that draws an entry forgets what its last Begin found, and may have abandoned its swap by it
-  abbrev pub kept_drawn : ℕ → Bool → List Kept
+  abbrev pub kept_drawn : ℕ → Bool → List (Kept R)
   kept_drawn c abandons =
       keep s c (record (kept_of s c) { found = None; abandoned = abandons || (kept_of s c).abandoned })
 
-  abbrev pub kept_after_cells : TurnEvent → List Kept
+  abbrev pub kept_after_cells : TurnEvent O R → List (Kept R)
   kept_after_cells (Draw c cells entry) = kept_drawn c false
   kept_after_cells (Alone c entry) = kept_drawn c (tells_abandoned entry.answer)
   kept_after_cells event = s.kept
@@ -24,7 +24,7 @@ module _ {L : Type 0} (s : Joined L) where
   abbrev pub hands_with : ℕ → L → List (List L)
   hands_with o layout = slice_set s.hands o (layout ∷ layouts_of s o)
 
-  abbrev pub effect : Event L → Joined L
+  abbrev pub effect : Event L O R → Joined L O R
   effect (AtPhases event) =
       record s { phases = phases.effect s.phases event; kept = kept_after_phases s event }
   effect (AtCells event) = record s { turns = turns.effect s.turns event; kept = kept_after_cells event }

@@ -8,7 +8,7 @@ use Rattle.turn_core.specs.declared.event.TurnEvent.TheVariants.{Draw}
 use Rattle.k42_joined.specs.Event.{Event, AtCells, HandWith}
 
 -- A draw moves the parts of the newest row as the entry says, and leaves all other rows.
-pub record FollowsDraw {S L P : Type 0} (F : Layouts S L P) (entry : Entry) (x y : Chain L P) : Type 0 where
+pub record FollowsDraw {S L P O R : Type 0} (F : Layouts S L P O R) (entry : Entry O R) (x y : Chain L P O R) : Type 0 where
   pub past : y.past ≡ x.past
   pub layout : y.row.layout ≡ x.row.layout
   pub parts : parts_of F y.row ≡ (part_steps F x.row.layout).moves (parts_of F x.row) entry
@@ -16,7 +16,7 @@ pub record FollowsDraw {S L P : Type 0} (F : Layouts S L P) (entry : Entry) (x y
 -- A hand begins a row whose parts are imported of the state for which the newest row stands, and leaves that
 -- row and all before it.
 pub record FollowsHand
-    {S L P : Type 0} (F : Layouts S L P) (layout : L) (entry : Entry) (x y : Chain L P)
+    {S L P O R : Type 0} (F : Layouts S L P O R) (layout : L) (entry : Entry O R) (x y : Chain L P O R)
     : Type 0 where
   pub past : y.past ≡ record { row = x.row; done = entry } ∷ x.past
   pub layout_is : y.row.layout ≡ layout
@@ -25,7 +25,7 @@ pub record FollowsHand
       ≡ (F.ways_of layout).imported F.procs (F.admitted layout (state_of F x.row))
 
 -- the object at whose cells an event draws
-abbrev pub drawn_at : {L : Type 0} → Event L → Option ℕ
+abbrev pub drawn_at : {L O R : Type 0} → Event L O R → Option ℕ
 drawn_at (AtCells (Draw c cells entry)) = Some entry.object
 drawn_at (HandWith c from onto layout entry) = Some entry.object
 drawn_at event = None

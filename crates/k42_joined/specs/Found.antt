@@ -11,7 +11,7 @@ abbrev pub swap_number : Object → ℕ
 swap_number k = if k.complete then k.incarnation else k.incarnation + 1
 
 -- what the word of an object answers: nothing where the swap may go on
-abbrev pub answer_found : Object → Option Answer
+abbrev pub answer_found : {R : Type 0} → Object → Option (Answer R)
 answer_found k =
     if k.layout == 2 then Some Gone
     else if k.incarnation == LAST_INCARNATION then Some Spent
@@ -19,7 +19,7 @@ answer_found k =
     else None
 
 -- the answers that tell of an object which is over
-abbrev pub tells_over : Answer → Bool
+abbrev pub tells_over : {R : Type 0} → Answer R → Bool
 tells_over Spent = true
 tells_over Gone = true
 tells_over _ = false

@@ -11,19 +11,19 @@ use Rattle.k42_joined.specs.Event.{Event, AtPhases, AtCells, HandWith}
 use Rattle.k42_joined.specs.State.{object, cell, kept_of, layouts_of}
 
 -- the cells that an event names
-abbrev pub cells_of : {L : Type 0} → Event L → List ℕ
+abbrev pub cells_of : {L O R : Type 0} → Event L O R → List ℕ
 cells_of (AtPhases event) = []
 cells_of (AtCells event) = turns.cells_of event
 cells_of (HandWith c from onto layout entry) = from ++ onto
 
 -- the object that it may change
-abbrev pub object_of : {L : Type 0} → Joined L → Event L → Option ℕ
+abbrev pub object_of : {L O R : Type 0} → Joined L O R → Event L O R → Option ℕ
 object_of s (AtPhases event) = object_changed s.phases event
 object_of s (AtCells event) = None
 object_of s (HandWith c from onto layout entry) = Some entry.object
 
 -- but for one caller, some cells and one object at most, the states are the same
-pub record LeavesOthers {L : Type 0} (s t : Joined L) (caller : ℕ) (named : List ℕ) (changed : Option ℕ) : Type 0 where
+pub record LeavesOthers {L O R : Type 0} (s t : Joined L O R) (caller : ℕ) (named : List ℕ) (changed : Option ℕ) : Type 0 where
   pub visitors : (c : ℕ) → c ≢ caller → visitor_at t.phases c ≡ visitor_at s.phases c
   pub activities :
       (c : ℕ) → c ≢ caller

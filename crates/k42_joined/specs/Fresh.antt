@@ -13,7 +13,7 @@ first_lives zero = []
 first_lives (suc objects) = replicate 8 0 ++ (replicate 8 1 ++ first_lives objects)
 
 -- objects of these layouts, and a caller on each processor that is named
-abbrev pub fresh : {S L P : Type 0} → Layouts S L P → List L → List ℕ → Joined L
+abbrev pub fresh : {S L P O R : Type 0} → Layouts S L P O R → List L → List ℕ → Joined L O R
 fresh F declared callers = record {
   phases = phases.new_phases F.procs (map F.tag_of declared) callers;
   turns = turns.fresh (first_lives (length declared)) (length callers);
@@ -22,7 +22,7 @@ fresh F declared callers = record {
 }
 
 -- No object starts dead, and the layouts are told for these callers.
-pub record IsPlan {S L P : Type 0} (F : Layouts S L P) (declared : List L) (callers : List ℕ) : Type 0 where
+pub record IsPlan {S L P O R : Type 0} (F : Layouts S L P O R) (declared : List L) (callers : List ℕ) : Type 0 where
   pub phases : phases.IsPlan F.procs (map F.tag_of declared) callers
   pub live : EachPlace (λ o layout. F.tag_of layout ≤ 1) declared
   pub proc_of : (c : ℕ) → c < length callers → F.proc_of c ≡ slice_index_or callers c 0

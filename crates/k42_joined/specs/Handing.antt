@@ -13,8 +13,8 @@ use Rattle.k42_joined.specs.Drawing.{Bears}
 -- the cells of the row of the incarnation and begins those of the next. The layout is of the object's kind,
 -- and the entry tells of it.
 pub record MayHand
-    {S L P : Type 0} (F : Layouts S L P) (declared : List L) (s : Joined L) (c : ℕ) (from onto : List ℕ)
-    (layout : L) (entry : Entry)
+    {S L P O R : Type 0} (F : Layouts S L P O R) (declared : List L) (s : Joined L O R) (c : ℕ) (from onto : List ℕ)
+    (layout : L) (entry : Entry O R)
     : Type 0 where
   pub moved : swap_of s c ≡ Moved entry.object
   pub once : is_handed s entry.object ≡ false

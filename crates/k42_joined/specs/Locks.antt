@@ -8,7 +8,7 @@ use Rattle.k42_joined.specs.State.{many_procs, many_callers, many_objects, objec
 use Rattle.k42_joined.specs.Possible.{MayTouch}
 
 -- there is a caller in both machines for each that is kept, and for each object two rows of eight cells
-pub record AreAsMany {L : Type 0} (s : Joined L) : Type 0 where
+pub record AreAsMany {L O R : Type 0} (s : Joined L O R) : Type 0 where
   pub callers : length s.turns.callers ≡ many_callers s
   pub kept : length s.kept ≡ many_callers s
   pub hands : length s.hands ≡ many_objects s
@@ -16,7 +16,7 @@ pub record AreAsMany {L : Type 0} (s : Joined L) : Type 0 where
   pub few_procs : many_procs s ≤ 8
 
 -- a caller that holds a cell may touch it
-abbrev pub AreLawfullyHeld : {L : Type 0} → Joined L → Type 0
+abbrev pub AreLawfullyHeld : {L O R : Type 0} → Joined L O R → Type 0
 AreLawfullyHeld s = (n c : ℕ) → (cell s n).lock ≡ Some c → MayTouch s c n
 
 -- Of an object in this incarnation, so many of whose rows were handed on and freed: no row is handed on ahead
@@ -34,23 +34,23 @@ abbrev pub is_closed_in : ℕ → Bool → ℕ → Bool
 is_closed_in i handed life = nat_lt life i || ((life == i) && handed)
 
 -- a cell of this life, in an incarnation whose row was handed on or was not
-pub record IsOfLife (i : ℕ) (handed : Bool) (n : ℕ) (x : Cell) : Type 0 where
+pub record IsOfLife {O R : Type 0} (i : ℕ) (handed : Bool) (n : ℕ) (x : Cell O R) : Type 0 where
   pub life : x.life ≡ n
   pub closed : x.closed ≡ is_closed_in i handed n
   pub past : length x.past ≡ n / 2
 
 -- the cells of the next row have an empty history before the hand, and just its entry after it
-pub record BeginsNext (i : ℕ) (handed : Bool) (x : Cell) : Type 0 where
+pub record BeginsNext {O R : Type 0} (i : ℕ) (handed : Bool) (x : Cell O R) : Type 0 where
   pub empty : handed ≡ false → x.history ≡ []
-  pub begun : handed ≡ true → (entry : Entry) × (x.history ≡ entry ∷ []) × (entry.answer ≡ Swapped (i + 1))
+  pub begun : handed ≡ true → (entry : Entry O R) × (x.history ≡ entry ∷ []) × (entry.answer ≡ Swapped (i + 1))
 
 -- the two cells of an object at a place of its rows: that of the incarnation's row, and the other
-pub record AreOfLives (i : ℕ) (handed : Bool) (x y : Cell) : Type 0 where
+pub record AreOfLives {O R : Type 0} (i : ℕ) (handed : Bool) (x y : Cell O R) : Type 0 where
   pub present : IsOfLife i handed i x
   pub other : IsOfLife i handed (other_life i handed) y
   pub next : y.life ≡ i + 1 → BeginsNext i handed y
 
-pub record AreLocked {L : Type 0} (s : Joined L) : Type 0 where
+pub record AreLocked {L O R : Type 0} (s : Joined L O R) : Type 0 where
   pub many : AreAsMany s
   pub held : AreLawfullyHeld s
   pub counted :

@@ -18,19 +18,19 @@ use Rattle.k42_joined.specs.Refusals.{MayDrawAlone}
 use Rattle.k42_joined.specs.Handing.{MayHand}
 
 -- a cell of a row of an object, which the caller may touch
-pub record MayTouch {L : Type 0} (s : Joined L) (c n : ℕ) : Type 0 where
+pub record MayTouch {L O R : Type 0} (s : Joined L O R) (c n : ℕ) : Type 0 where
   pub object : object_of n < many_objects s
   pub place : place_of n < many_procs s
   pub allowed : may_touch s.phases c (object_of n) (cell s n).life ≡ true
 
-module _ {S L P : Type 0} (F : Layouts S L P) (declared : List L) (s : Joined L) where
+module _ {S L P O R : Type 0} (F : Layouts S L P O R) (declared : List L) (s : Joined L O R) where
   pub record MayAtPhases (event : phases.Event) : Type 0 where
     pub objects : phases.NamesObjects (many_objects s) event
     pub core : IsTrue (phase_events.is_possible s.phases event)
     pub beside : may_at_phases s F.tag_of event ≡ true
 
   -- what an event of cells needs beside; a Hand is `HandWith`, which names its layout
-  abbrev pub BesideCells : TurnEvent → Type 0
+  abbrev pub BesideCells : TurnEvent O R → Type 0
   BesideCells (Lock c n) = MayTouch s c n
   BesideCells (Take c n) = MayTouch s c n
   BesideCells (Put c n) = MayTouch s c n
@@ -40,20 +40,20 @@ module _ {S L P : Type 0} (F : Layouts S L P) (declared : List L) (s : Joined L)
   BesideCells (Alone c entry) = MayDrawAlone s c entry
   BesideCells (Hand c from onto entry) = ⊥
 
-  pub record MayAtCells (event : TurnEvent) : Type 0 where
+  pub record MayAtCells (event : TurnEvent O R) : Type 0 where
     pub core : IsTrue (turns.is_possible s.turns event)
     pub beside : BesideCells event
 
-  pub record MayHandOn (c : ℕ) (from onto : List ℕ) (layout : L) (entry : Entry) : Type 0 where
+  pub record MayHandOn (c : ℕ) (from onto : List ℕ) (layout : L) (entry : Entry O R) : Type 0 where
     pub core : IsTrue (turns.is_possible s.turns (Hand c from onto entry))
     pub beside : MayHand F declared s c from onto layout entry
 
-  abbrev pub MayHappen : Event L → Type 0
+  abbrev pub MayHappen : Event L O R → Type 0
   MayHappen (AtPhases event) = MayAtPhases event
   MayHappen (AtCells event) = MayAtCells event
   MayHappen (HandWith c from onto layout entry) = MayHandOn c from onto layout entry
 
   -- the event is of a caller that is there
-  pub record IsPossible (event : Event L) : Type 0 where
+  pub record IsPossible (event : Event L O R) : Type 0 where
     pub caller : caller_of event < many_callers s
     pub may : MayHappen event

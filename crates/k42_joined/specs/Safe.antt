@@ -8,11 +8,11 @@ use Rattle.k42_joined.specs.Plain.{Joined}
 use Rattle.k42_joined.specs.State.{many_procs, many_callers, many_objects, object, incarnation, cell_in}
 
 -- the cells of a row are of its life, and open
-pub record IsOpenRow {L : Type 0} (s : Joined L) (o i p : ℕ) : Type 0 where
+pub record IsOpenRow {L O R : Type 0} (s : Joined L O R) (o i p : ℕ) : Type 0 where
   pub life : (cell_in s o i p).life ≡ i
   pub opened : (cell_in s o i p).closed ≡ false
 
-pub record IsSafe {L : Type 0} (s : Joined L) : Type 0 where
+pub record IsSafe {L O R : Type 0} (s : Joined L O R) : Type 0 where
   -- while an object is moved, nobody is inside a row of it
   pub moved_alone :
       (c o i : ℕ) → c < many_callers s → o < many_objects s → IsTrue (object s o).moving

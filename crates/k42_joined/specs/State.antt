@@ -11,10 +11,10 @@ use Rattle.k42_joined.specs.Plain.{Kept, Joined}
 use Rattle.k42_joined.specs.Numbers.{cell_of}
 
 -- of a caller that has begun nothing
-abbrev pub nothing_kept : Kept
+abbrev pub nothing_kept : {R : Type 0} → Kept R
 nothing_kept = record { begun = None; found = None; abandoned = false }
 
-module _ {L : Type 0} (s : Joined L) where
+module _ {L O R : Type 0} (s : Joined L O R) where
   abbrev pub many_procs : ℕ
   many_procs = length s.phases.turns.procs
 
@@ -33,21 +33,21 @@ module _ {L : Type 0} (s : Joined L) where
   abbrev pub swap_of : ℕ → SwapAt
   swap_of c = (visitor_at s.phases c).swap
 
-  abbrev pub cell : ℕ → Cell
+  abbrev pub cell : ℕ → Cell O R
   cell n = turns.cell_at s.turns n
 
   -- the cell of a row of an object at a place
-  abbrev pub cell_in : ℕ → ℕ → ℕ → Cell
+  abbrev pub cell_in : ℕ → ℕ → ℕ → Cell O R
   cell_in o i p = turns.cell_at s.turns (cell_of o i p)
 
   abbrev pub held : ℕ → List ℕ
   held c = held_by s.turns.callers c
 
   -- the entries that a caller has drawn
-  abbrev pub mine : ℕ → List Entry
+  abbrev pub mine : ℕ → List (Entry O R)
   mine c = drawn_by s.turns.callers c
 
-  abbrev pub kept_of : ℕ → Kept
+  abbrev pub kept_of : ℕ → Kept R
   kept_of c = slice_index_or s.kept c nothing_kept
 
   abbrev pub layouts_of : ℕ → List L
@@ -61,5 +61,5 @@ module _ {L : Type 0} (s : Joined L) where
   abbrev pub is_handed : ℕ → Bool
   is_handed o = nat_lt (incarnation o) (many_hands o)
 
-  abbrev pub keep : ℕ → Kept → List Kept
+  abbrev pub keep : ℕ → Kept R → List (Kept R)
   keep c kept = slice_set s.kept c kept

@@ -24,7 +24,7 @@ abbrev pub may_clear : SwapAt → Object → Bool → Bool
 may_clear (Opened o) k abandoned = k.complete || abandoned
 may_clear swap k abandoned = true
 
-module _ {L : Type 0} (s : Joined L) where
+module _ {L O R : Type 0} (s : Joined L O R) where
   -- a swap that moves its object turns it over after its hand, and gives up only before
   abbrev pub may_turn_over : (L → ℕ) → ℕ → ℕ → Bool
   may_turn_over tag_of o tag = is_handed s o && is_newest_tag tag_of (layouts_of s o) tag
@@ -43,7 +43,7 @@ module _ {L : Type 0} (s : Joined L) where
   may_at_phases tag_of event = true
 
   -- what is kept after it
-  abbrev pub kept_after_phases : PhaseEvent → List Kept
+  abbrev pub kept_after_phases : PhaseEvent → List (Kept R)
   kept_after_phases (Begin c o) = keep s c (record (kept_of s c) { begun = Some o; found = answer_found (object s o) })
   kept_after_phases (Unblock c) = keep s c (record (kept_of s c) { abandoned = false })
   kept_after_phases event = s.kept

@@ -29,7 +29,8 @@ pub fn stays_sound<L: Layout>(procs: u32)
     requires { 0 < procs }
     ensures { (proc_of : ℕ → ℕ) → ((caller : ℕ) → proc_of caller < procs) →
         let F = layouts_with L.object L.tag_of L.ways L.whole L.serves L.admitted L.act_of procs proc_of in
-        (declared : List L) (s : Joined L) → IsReached F declared s → IsSound F declared s }
+        (declared : List L) (s : Joined L L.Op L.Reply) → IsReached F declared s →
+        IsSound F declared s }
 {}
 
 /// Each possible event keeps every fact, from every state that meets them.
@@ -37,7 +38,8 @@ pub fn each_event_keeps<L: Layout>(procs: u32)
     requires { 0 < procs }
     ensures { (proc_of : ℕ → ℕ) → ((caller : ℕ) → proc_of caller < procs) →
         let F = layouts_with L.object L.tag_of L.ways L.whole L.serves L.admitted L.act_of procs proc_of in
-        (declared : List L) (s : Joined L) (event : Event L) → IsSound F declared s →
+        (declared : List L) (s : Joined L L.Op L.Reply) (event : Event L L.Op L.Reply) →
+        IsSound F declared s →
         IsPossible F declared s event → IsSound F declared (effect s event) }
 {}
 
@@ -47,7 +49,7 @@ pub fn sound_states_are_safe<L: Layout>(procs: u32)
     requires { 0 < procs }
     ensures { (proc_of : ℕ → ℕ) → ((caller : ℕ) → proc_of caller < procs) →
         let F = layouts_with L.object L.tag_of L.ways L.whole L.serves L.admitted L.act_of procs proc_of in
-        (declared : List L) (s : Joined L) → IsSound F declared s → IsSafe s }
+        (declared : List L) (s : Joined L L.Op L.Reply) → IsSound F declared s → IsSafe s }
 {}
 
 /// The entries of all callers, in order and numbered anew, are legal wherever they were drawn at cells:
@@ -56,7 +58,8 @@ pub fn trace_is_legal<L: Layout>(procs: u32)
     requires { 0 < procs }
     ensures { (proc_of : ℕ → ℕ) → ((caller : ℕ) → proc_of caller < procs) →
         let F = layouts_with L.object L.tag_of L.ways L.whole L.serves L.admitted L.act_of procs proc_of in
-        (declared : List L) (s : Joined L) (merged : List Entry) → IsSound F declared s →
+        (declared : List L) (s : Joined L L.Op L.Reply) (merged : List (Entry L.Op L.Reply)) →
+        IsSound F declared s →
         IsMerged (lists_of s) merged → AreLegal F declared is_drawn merged }
 {}
 
@@ -65,7 +68,8 @@ pub fn rows_are_freed_once<L: Layout>(procs: u32)
     requires { 0 < procs }
     ensures { (proc_of : ℕ → ℕ) → ((caller : ℕ) → proc_of caller < procs) →
         let F = layouts_with L.object L.tag_of L.ways L.whole L.serves L.admitted L.act_of procs proc_of in
-        (declared : List L) (s t : Joined L) (events : List (Event L)) → Leads F declared events s t →
+        (declared : List L) (s t : Joined L L.Op L.Reply) (events : List (Event L L.Op L.Reply)) →
+        Leads F declared events s t →
         IsFreedOnce F declared s t }
 {}
 
@@ -74,7 +78,8 @@ pub fn readers_leave_before<L: Layout>(procs: u32)
     requires { 0 < procs }
     ensures { (proc_of : ℕ → ℕ) → ((caller : ℕ) → proc_of caller < procs) →
         let F = layouts_with L.object L.tag_of L.ways L.whole L.serves L.admitted L.act_of procs proc_of in
-        (declared : List L) (s t : Joined L) (events : List (Event L)) (last : Event L) (c o i : ℕ) →
+        (declared : List L) (s t : Joined L L.Op L.Reply) (events : List (Event L L.Op L.Reply))
+        (last : Event L L.Op L.Reply) (c o i : ℕ) →
         IsSound F declared s → Leads F declared events s t → IsPossible F declared t last →
         c < many_callers s → HasRead s.phases c o i → TakesRow t last o i → Leaves c events }
 {}
@@ -85,7 +90,8 @@ pub fn trace_at_rest_is_a_history<L: Layout>(procs: u32)
     requires { 0 < procs }
     ensures { (proc_of : ℕ → ℕ) → ((caller : ℕ) → proc_of caller < procs) →
         let F = layouts_with L.object L.tag_of L.ways L.whole L.serves L.admitted L.act_of procs proc_of in
-        (declared : List L) (s : Joined L) (merged : List Entry) → IsSound F declared s → IsAtRest s →
+        (declared : List L) (s : Joined L L.Op L.Reply) (merged : List (Entry L.Op L.Reply)) →
+        IsSound F declared s → IsAtRest s →
         IsMerged (lists_of s) merged → IsHistoryOf F declared s merged }
 {}
 
@@ -95,7 +101,8 @@ pub fn stamps_pass_what_was_seen<L: Layout>(procs: u32)
     requires { 0 < procs }
     ensures { (proc_of : ℕ → ℕ) → ((caller : ℕ) → proc_of caller < procs) →
         let F = layouts_with L.object L.tag_of L.ways L.whole L.serves L.admitted L.act_of procs proc_of in
-        (declared : List L) (s : Joined L) (event : Event L) (drawn : Drawn) (seen : Entry) →
+        (declared : List L) (s : Joined L L.Op L.Reply) (event : Event L L.Op L.Reply)
+        (drawn : Drawn L.Op L.Reply) (seen : Entry L.Op L.Reply) →
         IsSound F declared s → IsPossible F declared s event → drawn_by event ≡ Some drawn →
         HasSeen s (caller_of event) seen ⊎ StandsAt s drawn.cells seen → seen.stamp < drawn.entry.stamp }
 {}
@@ -105,8 +112,10 @@ pub fn what_follows_a_skip_is_later<L: Layout>(procs: u32)
     requires { 0 < procs }
     ensures { (proc_of : ℕ → ℕ) → ((caller : ℕ) → proc_of caller < procs) →
         let F = layouts_with L.object L.tag_of L.ways L.whole L.serves L.admitted L.act_of procs proc_of in
-        (declared : List L) (s t : Joined L) (c stamp : ℕ) (events : List (Event L)) (event : Event L)
-        (drawn : Drawn) → IsSound F declared s → IsPossible F declared s (AtCells (Skip c stamp)) →
+        (declared : List L) (s t : Joined L L.Op L.Reply) (c stamp : ℕ)
+        (events : List (Event L L.Op L.Reply)) (event : Event L L.Op L.Reply)
+        (drawn : Drawn L.Op L.Reply) → IsSound F declared s →
+        IsPossible F declared s (AtCells (Skip c stamp)) →
         Leads F declared events (effect s (AtCells (Skip c stamp))) t → IsPossible F declared t event →
         caller_of event ≡ c → drawn_by event ≡ Some drawn → stamp < drawn.entry.stamp }
 {}
@@ -116,7 +125,8 @@ pub fn others_stay<L: Layout>(procs: u32)
     requires { 0 < procs }
     ensures { (proc_of : ℕ → ℕ) → ((caller : ℕ) → proc_of caller < procs) →
         let F = layouts_with L.object L.tag_of L.ways L.whole L.serves L.admitted L.act_of procs proc_of in
-        (declared : List L) (s : Joined L) (event : Event L) → IsSound F declared s →
+        (declared : List L) (s : Joined L L.Op L.Reply) (event : Event L L.Op L.Reply) →
+        IsSound F declared s →
         IsPossible F declared s event →
         LeavesOthers s (effect s event) (caller_of event) (cells_of event) (object_of s event) }
 {}
@@ -126,7 +136,7 @@ pub fn rows_that_fit_are_one<L: Layout>(procs: u32)
     requires { 0 < procs }
     ensures { (proc_of : ℕ → ℕ) → ((caller : ℕ) → proc_of caller < procs) →
         let F = layouts_with L.object L.tag_of L.ways L.whole L.serves L.admitted L.act_of procs proc_of in
-        (declaration : L) (s : Joined L) (o : ℕ) (x y : Chain L L.Part) →
+        (declaration : L) (s : Joined L L.Op L.Reply) (o : ℕ) (x y : Chain L L.Part L.Op L.Reply) →
         AreRowsOf F declaration s o x → AreRowsOf F declaration s o y → x ≡ y }
 {}
 
@@ -135,8 +145,10 @@ pub fn parts_follow_draws<L: Layout>(procs: u32)
     requires { 0 < procs }
     ensures { (proc_of : ℕ → ℕ) → ((caller : ℕ) → proc_of caller < procs) →
         let F = layouts_with L.object L.tag_of L.ways L.whole L.serves L.admitted L.act_of procs proc_of in
-        (declared : List L) (s : Joined L) (o c : ℕ) (declaration : L) (x y : Chain L L.Part)
-        (cells : List ℕ) (entry : Entry) → IsSound F declared s → slice_get declared o ≡ Some declaration →
+        (declared : List L) (s : Joined L L.Op L.Reply) (o c : ℕ) (declaration : L)
+        (x y : Chain L L.Part L.Op L.Reply)
+        (cells : List ℕ) (entry : Entry L.Op L.Reply) → IsSound F declared s →
+        slice_get declared o ≡ Some declaration →
         AreRowsOf F declaration s o x → IsPossible F declared s (AtCells (Draw c cells entry)) →
         entry.object ≡ o → AreRowsOf F declaration (effect s (AtCells (Draw c cells entry))) o y →
         FollowsDraw F entry x y }
@@ -147,8 +159,10 @@ pub fn parts_follow_hands<L: Layout>(procs: u32)
     requires { 0 < procs }
     ensures { (proc_of : ℕ → ℕ) → ((caller : ℕ) → proc_of caller < procs) →
         let F = layouts_with L.object L.tag_of L.ways L.whole L.serves L.admitted L.act_of procs proc_of in
-        (declared : List L) (s : Joined L) (o c : ℕ) (declaration layout : L) (x y : Chain L L.Part)
-        (from onto : List ℕ) (entry : Entry) → IsSound F declared s → slice_get declared o ≡ Some declaration →
+        (declared : List L) (s : Joined L L.Op L.Reply) (o c : ℕ) (declaration layout : L)
+        (x y : Chain L L.Part L.Op L.Reply)
+        (from onto : List ℕ) (entry : Entry L.Op L.Reply) → IsSound F declared s →
+        slice_get declared o ≡ Some declaration →
         AreRowsOf F declaration s o x → IsPossible F declared s (HandWith c from onto layout entry) →
         entry.object ≡ o → AreRowsOf F declaration (effect s (HandWith c from onto layout entry)) o y →
         FollowsHand F layout entry x y }
@@ -159,8 +173,9 @@ pub fn rows_stay_else<L: Layout>(procs: u32)
     requires { 0 < procs }
     ensures { (proc_of : ℕ → ℕ) → ((caller : ℕ) → proc_of caller < procs) →
         let F = layouts_with L.object L.tag_of L.ways L.whole L.serves L.admitted L.act_of procs proc_of in
-        (declared : List L) (s : Joined L) (event : Event L) (o : ℕ) (declaration : L)
-        (x : Chain L L.Part) → IsSound F declared s → IsPossible F declared s event →
+        (declared : List L) (s : Joined L L.Op L.Reply) (event : Event L L.Op L.Reply) (o : ℕ)
+        (declaration : L)
+        (x : Chain L L.Part L.Op L.Reply) → IsSound F declared s → IsPossible F declared s event →
         (drawn_at event ≡ Some o → ⊥) → AreRowsOf F declaration s o x →
         AreRowsOf F declaration (effect s event) o x }
 {}
@@ -170,6 +185,7 @@ pub fn moves_and_frees_alone<L: Layout>(procs: u32)
     requires { 0 < procs }
     ensures { (proc_of : ℕ → ℕ) → ((caller : ℕ) → proc_of caller < procs) →
         let F = layouts_with L.object L.tag_of L.ways L.whole L.serves L.admitted L.act_of procs proc_of in
-        (declared : List L) (s : Joined L) (c d o : ℕ) → IsSound F declared s → c < many_callers s →
+        (declared : List L) (s : Joined L L.Op L.Reply) (c d o : ℕ) → IsSound F declared s →
+        c < many_callers s →
         d < many_callers s → o < many_objects s → IsAloneAt s.phases c o → IsAloneAt s.phases d o → c ≡ d }
 {}

@@ -12,7 +12,7 @@ below_decides (m ∷ ms) [] = (λ t. absurd (cc), λ h. absurd h)
 below_decides (m ∷ ms) (n ∷ ns) =
     Decides-or (ltb m n) (eqb m n && is_below ms ns) (Decides-ltb m n) (Decides-and (eqb m n) (is_below ms ns) (Decides-eqb m n) (below_decides ms ns))
 
-pub before_decides : (one other : Entry) → Decides (comes_before one other) (IsBefore one other)
+pub before_decides : {O R : Type 0} (one other : Entry O R) → Decides (comes_before one other) (IsBefore one other)
 before_decides one other = below_decides (key_of one) (key_of other)
 
 pub stands_decides : (one other : Standing) → Decides (stands_before one other) (IsBelow (key_at one) (key_at other))

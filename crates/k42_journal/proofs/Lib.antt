@@ -2,4 +2,5 @@ pub mod Below
 pub mod Placing
 pub mod Merges
 pub mod Queueing
+pub mod Collected
 mod MergeExamples

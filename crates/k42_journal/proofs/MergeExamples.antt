@@ -1,7 +1,9 @@
 -- Three callers' lists and what they merge to, and what they do not.
 use Rattle.std.proofs.Common.{◌≡◌, ℕ, List, [], ◌∷◌, None, refl, sym, ap, ◌∙◌, arith}
 use Rattle.std.specs.Prelude.{slice_get}
+use Rattle.k42_kinds.specs.declared.operation.Op.{Op}
 use Rattle.k42_kinds.specs.declared.operation.Op.TheVariants.{Get}
+use Rattle.k42_kinds.specs.declared.operation.Reply.{Reply}
 use Rattle.k42_kinds.specs.declared.operation.Reply.TheVariants.{Number}
 use Rattle.k42_kinds.specs.declared.entry.Act.TheVariants.{Call}
 use Rattle.k42_kinds.specs.declared.entry.Answer.TheVariants.{Replied}
@@ -9,12 +11,12 @@ use Rattle.k42_kinds.specs.declared.entry.Entry.{Entry}
 use Rattle.k42_log.specs.Logs.{stamp_or_0}
 use Rattle.k42_journal.specs.Merged.{merged_from}
 
-abbrev drawn : (stamp object cell caller : ℕ) → Entry
+abbrev drawn : (stamp object cell caller : ℕ) → Entry Op Reply
 drawn stamp object cell caller =
     record { stamp = stamp; caller = caller; index = 0; object = object; incarnation = 0; cell = cell; act = Call Get; answer = Replied (Number 0); proc = 0; generation = None }
 
 -- each of them drew at 5, and caller 0 at 9 too
-abbrev lists : List (List Entry)
+abbrev lists : List (List (Entry Op Reply))
 lists = (drawn 5 1 0 0 ∷ drawn 9 0 0 0 ∷ []) ∷ (drawn 5 0 2 1 ∷ []) ∷ (drawn 5 0 2 2 ∷ []) ∷ []
 
 -- by object, cell and caller, numbered from 3

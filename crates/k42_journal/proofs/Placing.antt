@@ -11,19 +11,19 @@ use Rattle.k42_journal.proofs.Below.{before_decides}
 
 -- how many, and which
 
-length_chosen : (b : Bool) (entry one : Entry) (others more : List Entry) → length more ≡ suc (length others) → length (cond b (one ∷ more) (entry ∷ one ∷ others)) ≡ suc (suc (length others))
+length_chosen : {O R : Type 0} (b : Bool) (entry one : Entry O R) (others more : List (Entry O R)) → length more ≡ suc (length others) → length (cond b (one ∷ more) (entry ∷ one ∷ others)) ≡ suc (suc (length others))
 length_chosen true entry one others more is = ap suc is
 length_chosen false entry one others more is = refl
 
-length-placed : (entry : Entry) (entries : List Entry) → length (placed entry entries) ≡ suc (length entries)
+length-placed : {O R : Type 0} (entry : Entry O R) (entries : List (Entry O R)) → length (placed entry entries) ≡ suc (length entries)
 length-placed entry [] = refl
 length-placed entry (one ∷ others) = length_chosen (comes_before one entry) entry one others (placed entry others) (length-placed entry others)
 
-pub length-in_order : (entries : List Entry) → length (in_order entries) ≡ length entries
+pub length-in_order : {O R : Type 0} (entries : List (Entry O R)) → length (in_order entries) ≡ length entries
 length-in_order [] = refl
 length-in_order (entry ∷ entries) = length-placed entry (in_order entries) ∙ ap suc (length-in_order entries)
 
-in_chosen : (b : Bool) (e entry one : Entry) (others more : List Entry) → (In e more → (e ≡ entry) ⊎ In e others)
+in_chosen : {O R : Type 0} (b : Bool) (e entry one : Entry O R) (others more : List (Entry O R)) → (In e more → (e ≡ entry) ⊎ In e others)
     → In e (cond b (one ∷ more) (entry ∷ one ∷ others)) → (e ≡ entry) ⊎ In e (one ∷ others)
 in_chosen true e entry one others more known is = elim is [
   | inl same ↦ inr (inl same)
@@ -31,11 +31,11 @@ in_chosen true e entry one others more known is = elim is [
 ]
 in_chosen false e entry one others more known is = is
 
-in-placed : (e entry : Entry) (entries : List Entry) → In e (placed entry entries) → (e ≡ entry) ⊎ In e entries
+in-placed : {O R : Type 0} (e entry : Entry O R) (entries : List (Entry O R)) → In e (placed entry entries) → (e ≡ entry) ⊎ In e entries
 in-placed e entry [] is = is
 in-placed e entry (one ∷ others) is = in_chosen (comes_before one entry) e entry one others (placed entry others) (in-placed e entry others) is
 
-chosen_in : (b : Bool) (e entry one : Entry) (others more : List Entry) → ((e ≡ entry) ⊎ In e others → In e more)
+chosen_in : {O R : Type 0} (b : Bool) (e entry one : Entry O R) (others more : List (Entry O R)) → ((e ≡ entry) ⊎ In e others → In e more)
     → (e ≡ entry) ⊎ In e (one ∷ others) → In e (cond b (one ∷ more) (entry ∷ one ∷ others))
 chosen_in true e entry one others more known is = elim is [
   | inl same ↦ inr (known (inl same))
@@ -44,18 +44,18 @@ chosen_in true e entry one others more known is = elim is [
 ]
 chosen_in false e entry one others more known is = is
 
-placed_in : (e entry : Entry) (entries : List Entry) → (e ≡ entry) ⊎ In e entries → In e (placed entry entries)
+placed_in : {O R : Type 0} (e entry : Entry O R) (entries : List (Entry O R)) → (e ≡ entry) ⊎ In e entries → In e (placed entry entries)
 placed_in e entry [] is = is
 placed_in e entry (one ∷ others) is = chosen_in (comes_before one entry) e entry one others (placed entry others) (placed_in e entry others) is
 
-pub in-in_order : (e : Entry) (entries : List Entry) → In e (in_order entries) → In e entries
+pub in-in_order : {O R : Type 0} (e : Entry O R) (entries : List (Entry O R)) → In e (in_order entries) → In e entries
 in-in_order e [] is = is
 in-in_order e (entry ∷ entries) is = elim (in-placed e entry (in_order entries) is) [
   | inl same ↦ inl same
   | inr there ↦ inr (in-in_order e entries there)
 ]
 
-pub in_order_in : (e : Entry) (entries : List Entry) → In e entries → In e (in_order entries)
+pub in_order_in : {O R : Type 0} (e : Entry O R) (entries : List (Entry O R)) → In e entries → In e (in_order entries)
 in_order_in e [] is = is
 in_order_in e (entry ∷ entries) is = placed_in e entry (in_order entries) (elim is [
   | inl same ↦ inl same
@@ -64,16 +64,16 @@ in_order_in e (entry ∷ entries) is = placed_in e entry (in_order entries) (eli
 
 -- in order
 
-abbrev pub AreApart : Entry → Entry → Type 0
+abbrev pub AreApart : {O R : Type 0} → Entry O R → Entry O R → Type 0
 AreApart one other = IsBefore other one ⊎ IsBefore one other
 
-ordered_chosen : (b : Bool) (entry one : Entry) (others more : List Entry) → comes_before one entry ≡ b → Ordered IsBefore (one ∷ others) → AreApart entry one
-    → Ordered IsBefore more → ((e : Entry) → In e more → (e ≡ entry) ⊎ In e others) → Ordered IsBefore (cond b (one ∷ more) (entry ∷ one ∷ others))
-ordered_chosen true entry one others more is up apart up_more known = (all_in (IsBefore one) more behind, up_more) where
+ordered_chosen : {O R : Type 0} (b : Bool) (entry one : Entry O R) (others more : List (Entry O R)) → comes_before one entry ≡ b → Ordered IsBefore (one ∷ others) → AreApart entry one
+    → Ordered IsBefore more → ((e : Entry O R) → In e more → (e ≡ entry) ⊎ In e others) → Ordered IsBefore (cond b (one ∷ more) (entry ∷ one ∷ others))
+ordered_chosen {O} {R} true entry one others more is up apart up_more known = (all_in (IsBefore one) more behind, up_more) where
   before : IsBefore one entry
   before = (before_decides one entry).0 is
 
-  behind : (e : Entry) → In e more → IsBefore one e
+  behind : (e : Entry O R) → In e more → IsBefore one e
   behind e there = elim (known e there) [
     | inl same ↦ rw same before
     | inr else ↦ all_at (IsBefore one) others e up.0 else
@@ -85,16 +85,16 @@ ordered_chosen false entry one others more is up apart up_more known = ((before,
     | inr later ↦ later
   ]
 
-Ordered-placed : (entry : Entry) (entries : List Entry) → Ordered IsBefore entries → AllByRecursion (AreApart entry) entries → Ordered IsBefore (placed entry entries)
+Ordered-placed : {O R : Type 0} (entry : Entry O R) (entries : List (Entry O R)) → Ordered IsBefore entries → AllByRecursion (AreApart entry) entries → Ordered IsBefore (placed entry entries)
 Ordered-placed entry [] up apart = (tt, tt)
 Ordered-placed entry (one ∷ others) up apart =
     ordered_chosen (comes_before one entry) entry one others (placed entry others) refl up apart.0 (Ordered-placed entry others up.1 apart.1) (λ e there. in-placed e entry others there)
 
 -- no two entries stand alike
-abbrev pub AreAllApart : List Entry → Type 0
+abbrev pub AreAllApart : {O R : Type 0} → List (Entry O R) → Type 0
 AreAllApart entries = Ordered AreApart entries
 
-pub Ordered-in_order : (entries : List Entry) → AreAllApart entries → Ordered IsBefore (in_order entries)
+pub Ordered-in_order : {O R : Type 0} (entries : List (Entry O R)) → AreAllApart entries → Ordered IsBefore (in_order entries)
 Ordered-in_order [] apart = tt
 Ordered-in_order (entry ∷ entries) apart =
     Ordered-placed entry (in_order entries) (Ordered-in_order entries apart.1)

@@ -8,10 +8,10 @@ use Rattle.std.proofs.lemmas.List.{take-append-drop}
 use Rattle.std.proofs.lemmas.Bool.{ne_eqb}
 use Rattle.std.proofs.lemmas.Bool.Decides.{eqb_tells}
 use Rattle.std.proofs.lemmas.Option.{same_Some, slice_get_within, get_or_from_slice_get}
-use Rattle.k42_kinds.specs.declared.operation.Op.TheVariants.{Get}
-use Rattle.k42_kinds.specs.declared.entry.Act.TheVariants.{Call}
+use Rattle.k42_kinds.specs.declared.entry.Act.TheVariants.{Swap}
 use Rattle.k42_kinds.specs.declared.entry.Answer.TheVariants.{Gone}
 use Rattle.k42_kinds.specs.declared.entry.Entry.{Entry}
+use Rattle.k42_kinds.specs.declared.entry.To.TheVariants.{Dead}
 use Rattle.k42_places.proofs.Written.{slice_get-set_here, slice_get-set_else}
 use Rattle.k42_places.proofs.Appended.{at_push, slice_get-append_left, slice_get-append_seam}
 use Rattle.k42_log.specs.declared.unread.Standing.{Standing}
@@ -27,8 +27,8 @@ use Rattle.k42_journal.specs.Keys.{key_at, stands_before}
 use Rattle.k42_journal.specs.Queues.{IsBehind, IsFirstOf, IsQueueOf, HasEntered, HasEnteredFirst, IsTaken}
 use Rattle.k42_journal.proofs.Below.{stands_decides}
 
--- an entry that stands so
-abbrev entry_at : Standing → Entry
+-- an entry that stands so, whatever its object is asked and answers
+abbrev entry_at : Standing → Entry ℕ ℕ
 entry_at standing = record {
   stamp = standing.stamp;
   index = 0;
@@ -36,7 +36,7 @@ entry_at standing = record {
   object = standing.object;
   incarnation = 0;
   cell = standing.cell;
-  act = Call Get;
+  act = Swap Dead;
   answer = Gone;
   proc = 0;
   generation = None;
@@ -121,25 +121,25 @@ entered_in e standing old new is has = subst (In e) (sym is.entered) (among (eli
   ]
 
 -- a queue of the lists but one
-pub record IsQueueBut (lists : List (List Entry)) (but : ℕ) (queue : List Standing) : Type 0 where
+pub record IsQueueBut {O R : Type 0} (lists : List (List (Entry O R))) (but : ℕ) (queue : List Standing) : Type 0 where
   pub ordered : Ordered IsBehind queue
-  pub all : (place : ℕ) (entry : Entry) (others : List Entry) → place ≢ but → slice_get lists place ≡ Some (entry ∷ others) → In (standing_of entry) queue
+  pub all : (place : ℕ) (entry : Entry O R) (others : List (Entry O R)) → place ≢ but → slice_get lists place ≡ Some (entry ∷ others) → In (standing_of entry) queue
   pub only : (standing : Standing) → In standing queue → (standing.caller ≢ but) × IsFirstOf lists standing
 
 same_or : (m n : ℕ) → (m ≡ n) ⊎ (m ≢ n)
 same_or m n = elim (eqb_tells m n) [ inl same ↦ inl same.1 | inr other ↦ inr other.1 ]
 
-same_list : (xs ys : List Entry) → Some xs ≡ Some ys → xs ≡ ys
+same_list : {O R : Type 0} (xs ys : List (Entry O R)) → Some xs ≡ Some ys → xs ≡ ys
 same_list xs ys is = same_Some xs ys is
 
-same_first : (x y : Entry) (xs ys : List Entry) → x ∷ xs ≡ y ∷ ys → x ≡ y
+same_first : {O R : Type 0} (x y : Entry O R) (xs ys : List (Entry O R)) → x ∷ xs ≡ y ∷ ys → x ≡ y
 same_first x y xs ys is = cc
 
-same_there : (lists : List (List Entry)) (place at : ℕ) (one other : List Entry) → slice_get lists place ≡ Some one → slice_get lists at ≡ Some other → place ≡ at → one ≡ other
+same_there : {O R : Type 0} (lists : List (List (Entry O R))) (place at : ℕ) (one other : List (Entry O R)) → slice_get lists place ≡ Some one → slice_get lists at ≡ Some other → place ≡ at → one ≡ other
 same_there lists place at one other is there same = same_list one other (sym is ∙ (ap (slice_get lists) same ∙ there))
 
 -- that list is empty
-pub none_enters : (lists : List (List Entry)) (but : ℕ) (queue : List Standing) → IsQueueBut lists but queue → slice_get lists but ≡ Some [] → IsQueueOf lists queue
+pub none_enters : {O R : Type 0} (lists : List (List (Entry O R))) (but : ℕ) (queue : List Standing) → IsQueueBut lists but queue → slice_get lists but ≡ Some [] → IsQueueOf lists queue
 none_enters lists but queue is none = record {
   ordered = is.ordered;
   all = λ place entry others at. elim (same_or place but) [
@@ -150,7 +150,7 @@ none_enters lists but queue is none = record {
 }
 
 -- or its first entry has entered
-pub first_enters : (lists : List (List Entry)) (but : ℕ) (old new : List Standing) (first : Entry) (more : List Entry) → IsQueueBut lists but old
+pub first_enters : {O R : Type 0} (lists : List (List (Entry O R))) (but : ℕ) (old new : List Standing) (first : Entry O R) (more : List (Entry O R)) → IsQueueBut lists but old
     → slice_get lists but ≡ Some (first ∷ more) → first.caller ≡ but
     → HasEntered (standing_of first) old new → IsQueueOf lists new
 first_enters lists but old new first more is there own entered = record {
@@ -182,12 +182,12 @@ first_enters lists but old new first more is there own entered = record {
       (all_at (λ x. stands_before standing x ≡ false) (drop place old) one entered.is.others has)
 
 -- or one of these
-pub first_entered : (lists : List (List Entry)) (but : ℕ) (old new : List Standing) (list : List Entry) → IsQueueBut lists but old
+pub first_entered : {O R : Type 0} (lists : List (List (Entry O R))) (but : ℕ) (old new : List Standing) (list : List (Entry O R)) → IsQueueBut lists but old
     → slice_get lists but ≡ Some list → IsListOf but list → HasEnteredFirst list old new → IsQueueOf lists new
 first_entered lists but old new [] is there own same = subst (IsQueueOf lists) (sym same) (none_enters lists but old is there)
 first_entered lists but old new (entry ∷ others) is there own entered = first_enters lists but old new entry others is there own.own.0 entered
 
-pub entered_by : (list : List Entry) (old new : List Standing) (standing : Standing)
+pub entered_by : {O R : Type 0} (list : List (Entry O R)) (old new : List Standing) (standing : Standing)
     → option_map standing_of (slice_get list 0) ≡ Some standing → HasEntered standing old new → HasEnteredFirst list old new
 entered_by [] old new standing stands entered = absurd (cc)
 entered_by (entry ∷ others) old new standing stands entered = subst (λ s. HasEntered s old new) (sym (same_Some (standing_of entry) standing stands)) entered
@@ -200,7 +200,7 @@ ordered_parts (x ∷ xs) last up =
     let rest = ordered_parts xs last up.1 in
     ((all_front (IsBehind x) xs (last ∷ []) up.0, rest.0), (all_at (IsBehind x) (xs ++ last ∷ []) last up.0 (in_right last xs (last ∷ []) (inl refl)), rest.1))
 
-module _ (lists : List (List Entry)) (old front : List Standing) (last : Standing) (are : AreLists lists) (is : IsQueueOf lists old) (cut : old ≡ front ++ last ∷ []) where
+module _ {O R : Type 0} (lists : List (List (Entry O R))) (old front : List Standing) (last : Standing) (are : AreLists lists) (is : IsQueueOf lists old) (cut : old ≡ front ++ last ∷ []) where
   in_old : (e : Standing) → In e (front ++ last ∷ []) → In e old
   in_old e has = subst (In e) (sym cut) has
 
@@ -213,10 +213,10 @@ module _ (lists : List (List Entry)) (old front : List Standing) (last : Standin
   -- is the next entry
   pub next_at : IsNext lists last.caller first_at.entry
   next_at = record { others = first_at.others; there = first_at.there; first = first } where
-    entry : Entry
+    entry : Entry O R
     entry = first_at.entry
 
-    none_before : (one : Entry) → In (standing_of one) front ⊎ In (standing_of one) (last ∷ []) → IsBefore one entry → ⊥
+    none_before : (one : Entry O R) → In (standing_of one) front ⊎ In (standing_of one) (last ∷ []) → IsBefore one entry → ⊥
     none_before one where_ before = elim where_ [
       | inl there ↦
           let behind : IsBehind (standing_of one) last = all_at (λ x. IsBehind x last) front (standing_of one) parts.1 there in
@@ -228,11 +228,11 @@ module _ (lists : List (List Entry)) (old front : List Standing) (last : Standin
       | inr (inr none) ↦ none
     ]
 
-    first : (p : ℕ) (one : Entry) (more : List Entry) → slice_get lists p ≡ Some (one ∷ more) → IsBefore one entry → ⊥
+    first : (p : ℕ) (one : Entry O R) (more : List (Entry O R)) → slice_get lists p ≡ Some (one ∷ more) → IsBefore one entry → ⊥
     first p one more at before = none_before one (in-append (standing_of one) front (last ∷ []) (subst (In (standing_of one)) cut (is.all p one more at))) before
 
   -- once it is taken, the others are a queue of the other lists
-  pub queue_left : (left : List Entry) → IsQueueBut (slice_set lists last.caller left) last.caller front
+  pub queue_left : (left : List (Entry O R)) → IsQueueBut (slice_set lists last.caller left) last.caller front
   queue_left left = record {
     ordered = parts.0;
     all = λ place entry others differ at.
@@ -259,26 +259,26 @@ module _ (lists : List (List Entry)) (old front : List Standing) (last : Standin
     ]
 
   -- and what is left of its list stands at its place
-  pub left_at : (left : List Entry) → slice_get (slice_set lists last.caller left) last.caller ≡ Some left
+  pub left_at : (left : List (Entry O R)) → slice_get (slice_set lists last.caller left) last.caller ≡ Some left
   left_at left = slice_get-set_here lists last.caller left (slice_get_within lists last.caller (first_at.entry ∷ first_at.others) first_at.there)
 
   -- its list, read at its place
-  begins_with : (list : List Entry) → get_or lists last.caller list ≡ list → list ≡ first_at.entry ∷ first_at.others
+  begins_with : (list : List (Entry O R)) → get_or lists last.caller list ≡ list → list ≡ first_at.entry ∷ first_at.others
   begins_with list read = sym read ∙ get_or_from_slice_get lists last.caller (first_at.entry ∷ first_at.others) list first_at.there
 
   pub within : last.caller < length lists
   within = slice_get_within lists last.caller (first_at.entry ∷ first_at.others) first_at.there
 
-  module _ (list left : List Entry) (read : get_or lists last.caller list ≡ list) (is_left : left ≡ drop 1 list) where
+  module _ (list left : List (Entry O R)) (read : get_or lists last.caller list ≡ list) (is_left : left ≡ drop 1 list) where
     others_left : left ≡ first_at.others
     others_left = is_left ∙ ap (drop 1) (begins_with list read)
 
-    pub one_taken : (result : Option Entry) → result ≡ slice_get list 0 → (result ≡ Some first_at.entry) × IfSome result (IsTaken lists (slice_set lists last.caller left))
+    pub one_taken : (result : Option (Entry O R)) → result ≡ slice_get list 0 → (result ≡ Some first_at.entry) × IfSome result (IsTaken lists (slice_set lists last.caller left))
     unfolding next_at first_at
     one_taken result is =
-        let some : result ≡ Some first_at.entry = is ∙ ap (λ (l : List Entry). slice_get l 0) (begins_with list read) in
+        let some : result ≡ Some first_at.entry = is ∙ ap (λ (l : List (Entry O R)). slice_get l 0) (begins_with list read) in
         let taken : IsTaken lists (slice_set lists last.caller left) first_at.entry = record { place = last.caller; next = next_at; left = ap (slice_set lists last.caller) others_left } in
-        (some, subst (λ (r : Option Entry). IfSome r (IsTaken lists (slice_set lists last.caller left))) (sym some) taken)
+        (some, subst (λ (r : Option (Entry O R)). IfSome r (IsTaken lists (slice_set lists last.caller left))) (sym some) taken)
 
     pub queue_after : (new : List Standing) → HasEnteredFirst left front new → IsQueueOf (slice_set lists last.caller left) new
     queue_after new entered =
@@ -288,24 +288,24 @@ module _ (lists : List (List Entry)) (old front : List Standing) (last : Standin
 
 -- where nothing is queued, no list has entries
 
-empty_each : (lists : List (List Entry)) → ((place : ℕ) (entry : Entry) (others : List Entry) → slice_get lists place ≡ Some (entry ∷ others) → ⊥) → AreEmpty lists
+empty_each : {O R : Type 0} (lists : List (List (Entry O R))) → ((place : ℕ) (entry : Entry O R) (others : List (Entry O R)) → slice_get lists place ≡ Some (entry ∷ others) → ⊥) → AreEmpty lists
 empty_each [] none = tt
 empty_each ([] ∷ lists) none = (refl, empty_each lists (λ place entry others at. none (suc place) entry others at))
 empty_each ((entry ∷ others) ∷ lists) none = absurd (none 0 entry others refl)
 
-pub none_left : (lists : List (List Entry)) (queue : List Standing) → IsQueueOf lists queue → queue ≡ [] → AreEmpty lists
+pub none_left : {O R : Type 0} (lists : List (List (Entry O R))) (queue : List Standing) → IsQueueOf lists queue → queue ≡ [] → AreEmpty lists
 none_left lists queue is none = empty_each lists (λ place entry others at. subst (In (standing_of entry)) none (is.all place entry others at))
 
 -- one list more, before its first entry has entered
 
-pub no_queue : IsQueueOf [] []
+pub no_queue : {O R : Type 0} → IsQueueOf {O = O} {R = R} [] []
 no_queue = record {
   ordered = tt;
   all = λ place entry others at. absurd (cc);
   only = λ standing has. absurd has;
 }
 
-pub list_more : (lists : List (List Entry)) (list : List Entry) (queue : List Standing) → IsQueueOf lists queue → IsQueueBut (lists ++ list ∷ []) (length lists) queue
+pub list_more : {O R : Type 0} (lists : List (List (Entry O R))) (list : List (Entry O R)) (queue : List Standing) → IsQueueOf lists queue → IsQueueBut (lists ++ list ∷ []) (length lists) queue
 list_more lists list queue is = record {
   ordered = is.ordered;
   all = λ place entry others differ at. elim (at_push lists list place (entry ∷ others) at) [
@@ -320,7 +320,7 @@ list_more lists list queue is = record {
       );
 }
 
-pub empty_queue : (lists : List (List Entry)) (queue : List Standing) → IsQueueOf lists queue → (length queue == 0) ≡ (entries_in lists == 0)
+pub empty_queue : {O R : Type 0} (lists : List (List (Entry O R))) (queue : List Standing) → IsQueueOf lists queue → (length queue == 0) ≡ (entries_in lists == 0)
 empty_queue lists [] is = let none = total_empty lists (none_left lists [] is refl) in rw none refl
 empty_queue lists (standing ∷ queue) is =
     let its = is.only standing (inl refl) in
@@ -329,7 +329,7 @@ empty_queue lists (standing ∷ queue) is =
     let queued : (length (standing ∷ queue) == 0) ≡ false = ne_eqb (length (standing ∷ queue)) 0 (λ none. omega (arith, none)) in
     queued ∙ sym some
 
-pub queue_more : (lists : List (List Entry)) (list : List Entry) (old new : List Standing)
+pub queue_more : {O R : Type 0} (lists : List (List (Entry O R))) (list : List (Entry O R)) (old new : List Standing)
     → IsQueueOf lists old → IsListOf (length lists) list → HasEnteredFirst list old new → IsQueueOf (lists ++ list ∷ []) new
 queue_more lists list old new is own entered =
     first_entered (lists ++ list ∷ []) (length lists) old new list (list_more lists list old is) (slice_get-append_seam lists list []) own entered

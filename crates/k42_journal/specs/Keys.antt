@@ -10,7 +10,7 @@ is_below [] ns = false
 is_below (m ∷ ms) [] = false
 is_below (m ∷ ms) (n ∷ ns) = nat_lt m n || (m == n && is_below ms ns)
 
-abbrev pub comes_before : Entry → Entry → Bool
+abbrev pub comes_before : {O R : Type 0} → Entry O R → Entry O R → Bool
 comes_before one other = is_below (key_of one) (key_of other)
 
 -- the key of an entry that stands so

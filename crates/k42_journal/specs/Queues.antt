@@ -13,17 +13,17 @@ abbrev pub IsBehind : Standing → Standing → Type 0
 IsBehind one other = stands_before other one ≡ true
 
 -- the list of its caller begins with an entry that stands so
-pub record IsFirstOf (lists : List (List Entry)) (standing : Standing) : Type 0 where
-  pub entry : Entry
-  pub others : List Entry
+pub record IsFirstOf {O R : Type 0} (lists : List (List (Entry O R))) (standing : Standing) : Type 0 where
+  pub entry : Entry O R
+  pub others : List (Entry O R)
   pub there : slice_get lists standing.caller ≡ Some (entry ∷ others)
   pub is : standing ≡ standing_of entry
 
 -- how the first entries of the lists stand, the last of them first
-pub record IsQueueOf (lists : List (List Entry)) (queue : List Standing) : Type 0 where
+pub record IsQueueOf {O R : Type 0} (lists : List (List (Entry O R))) (queue : List Standing) : Type 0 where
   pub ordered : Ordered IsBehind queue
   pub all :
-      (place : ℕ) (entry : Entry) (others : List Entry) → slice_get lists place ≡ Some (entry ∷ others)
+      (place : ℕ) (entry : Entry O R) (others : List (Entry O R)) → slice_get lists place ≡ Some (entry ∷ others)
       → In (standing_of entry) queue
   pub only : (standing : Standing) → In standing queue → IsFirstOf lists standing
 
@@ -40,12 +40,12 @@ pub record HasEntered (standing : Standing) (old new : List Standing) : Type 0 w
   pub entered : new ≡ take place old ++ standing ∷ drop place old
 
 -- the first entry of the list has, if there is one
-abbrev pub HasEnteredFirst : List Entry → List Standing → List Standing → Type 0
+abbrev pub HasEnteredFirst : {O R : Type 0} → List (Entry O R) → List Standing → List Standing → Type 0
 HasEnteredFirst [] old new = new ≡ old
 HasEnteredFirst (entry ∷ others) old new = HasEntered (standing_of entry) old new
 
 -- the next entry was taken from its list
-pub record IsTaken (old new : List (List Entry)) (entry : Entry) : Type 0 where
+pub record IsTaken {O R : Type 0} (old new : List (List (Entry O R))) (entry : Entry O R) : Type 0 where
   pub place : ℕ
   pub next : IsNext old place entry
   pub left : new ≡ slice_set old place next.others

@@ -5,7 +5,7 @@ ghost use Rattle.k42_stamp.specs.Merging.{entries_in};
 ghost use Rattle.k42_journal.specs.Logs.{lists_of};
 
 use crate::reader::Reader;
-use k42_kinds::Entry;
+use k42_kinds::{Entry, Packed, PackedReply};
 use k42_log::Log;
 use k42_memory::Memory;
 use std::alloc::Global;
@@ -14,16 +14,16 @@ use std::marker::Model;
 /// The entries of all logs in the order of stamp, object, cell and caller, numbered anew from the
 /// first number. They stay in their logs.
 #[derive(Debug, Drop)]
-pub struct Journal {
-    logs: Vec<Log>,
+pub struct Journal<O: Packed, R: PackedReply> {
+    logs: Vec<Log<O, R>>,
     first: u64,
 }
 
-impl Model for Journal {
+impl<O: Packed, R: PackedReply> Model for Journal<O, R> {
     ghost use Rattle.std.specs.Prelude.{List};
     ghost use Rattle.k42_kinds.specs.declared.entry.Entry.{Entry};
 
-    ghost Value = { List Entry };
+    ghost Value = { List (Entry O R) };
 
     ghost use Rattle.k42_journal.specs.Merged.{merged_from};
     ghost use Rattle.k42_journal.specs.Logs.{MayMerge, lists_of};
@@ -34,7 +34,7 @@ impl Model for Journal {
 }
 
 /// How many entries the logs have.
-fn total_of(logs: &[Log]) -> usize
+fn total_of<O: Packed, R: PackedReply>(logs: &[Log<O, R>]) -> usize
     requires { entries_in (lists_of logs.now) < 2 ^ 64 }
     ensures { result ≡ entries_in (lists_of logs.now) }
 {
@@ -44,9 +44,9 @@ fn total_of(logs: &[Log]) -> usize
     }
 }
 
-impl Journal {
+impl<O: Packed, R: PackedReply> Journal<O, R> {
     /// The history of these logs. It moves no entry, and asks for no memory.
-    pub fn of(first: u64, logs: Vec<Log>) -> Journal
+    pub fn of(first: u64, logs: Vec<Log<O, R>>) -> Journal<O, R>
         requires lists { AreLists (lists_of logs.items) }
         requires fits { first + entries_in (lists_of logs.items) < 2 ^ 64 }
         ensures { IsMergedFrom first (lists_of logs.items) result }
@@ -69,14 +69,14 @@ impl Journal {
     }
 
     /// Its entries, none of them read yet. The room that it asks for goes by the number of logs.
-    pub fn read(&self, alloc: Global) -> Result<Reader<'_>, Memory>
+    pub fn read(&self, alloc: Global) -> Result<Reader<'_, O, R>, Memory>
         ensures { IfOk result (λ reader. reader ≡ self.now) }
     {
         Reader::of(self.first, self.logs.as_slice(), alloc)
     }
 
     /// All its entries. Want of memory leaves the journal.
-    pub fn collect(&self, alloc: Global) -> Result<Vec<Entry>, Memory>
+    pub fn collect(&self, alloc: Global) -> Result<Vec<Entry<O, R>>, Memory>
         ensures { IfOk result (λ list. list.items ≡ self.now) }
     {
         self.read(alloc)?.collect(alloc)

@@ -6,7 +6,7 @@ ghost use Rattle.k42_stamp.specs.Merging.{AreEmpty};
 ghost use Rattle.k42_journal.specs.Keys.{stands_before};
 ghost use Rattle.k42_journal.specs.Queues.{HasEntered, HasEnteredFirst, IsBehind, IsPlaceIn, IsQueueOf, IsTaken};
 
-use k42_kinds::Entry;
+use k42_kinds::{Entry, Packed, PackedReply};
 use k42_log::{Standing, Unread};
 
 /// Whether one stands before the other, by stamp, object, cell and caller.
@@ -53,7 +53,10 @@ fn enter(queue: &mut Vec<Standing>, standing: Standing)
 }
 
 /// Puts the first entry that was not read yet into the queue, if there is one.
-pub(crate) fn enter_first(queue: &mut Vec<Standing>, unread: &Unread<'_>)
+pub(crate) fn enter_first<O: Packed, R: PackedReply>(
+    queue: &mut Vec<Standing>,
+    unread: &Unread<'_, O, R>,
+)
     requires ordered { Ordered IsBehind queue.old.items }
     requires room { vec_len queue.old < vec_capacity queue.old }
     ensures entered { HasEnteredFirst unread.now queue.old.items queue.new.items }
@@ -66,7 +69,10 @@ pub(crate) fn enter_first(queue: &mut Vec<Standing>, unread: &Unread<'_>)
 }
 
 /// Takes the next entry from its log.
-pub(crate) fn take_next(unread: &mut Vec<Unread<'_>>, queue: &mut Vec<Standing>) -> Option<Entry>
+pub(crate) fn take_next<O: Packed, R: PackedReply>(
+    unread: &mut Vec<Unread<'_, O, R>>,
+    queue: &mut Vec<Standing>,
+) -> Option<Entry<O, R>>
     requires lists { AreLists unread.old.items }
     requires queue { IsQueueOf unread.old.items queue.old.items }
     ensures none { result ≡ None → AreEmpty unread.old.items × (unread.new.items ≡ unread.old.items) }

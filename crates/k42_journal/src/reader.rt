@@ -6,7 +6,7 @@ ghost use Rattle.k42_journal.specs.Logs.{MayMerge, lists_of};
 ghost use Rattle.k42_journal.specs.Queues.{IsQueueOf};
 
 use crate::queue::{enter_first, take_next};
-use k42_kinds::Entry;
+use k42_kinds::{Entry, Packed, PackedReply};
 use k42_log::{Log, Standing, Unread};
 use k42_memory::Memory;
 use std::alloc::Global;
@@ -14,18 +14,18 @@ use std::marker::Model;
 
 /// The entries of a journal that were not read yet, each with its place as stamp.
 #[derive(Drop)]
-pub struct Reader<'a> {
-    unread: Vec<Unread<'a>>,
+pub struct Reader<'a, O: Packed, R: PackedReply> {
+    unread: Vec<Unread<'a, O, R>>,
     /// How the first entry of each log stands that has one, the next entry at the end.
     queue: Vec<Standing>,
     number: u64,
 }
 
-impl<'a> Model for Reader<'a> {
+impl<'a, O: Packed, R: PackedReply> Model for Reader<'a, O, R> {
     ghost use Rattle.std.specs.Prelude.{List};
     ghost use Rattle.k42_kinds.specs.declared.entry.Entry.{Entry};
 
-    ghost Value = { List Entry };
+    ghost Value = { List (Entry O R) };
 
     ghost use Rattle.k42_journal.specs.Merged.{merged_from};
     ghost use Rattle.k42_journal.specs.Logs.{MayMerge};
@@ -37,7 +37,7 @@ impl<'a> Model for Reader<'a> {
 }
 
 /// How many entries were not read yet.
-fn total_of(unread: &[Unread<'_>]) -> usize
+fn total_of<O: Packed, R: PackedReply>(unread: &[Unread<'_, O, R>]) -> usize
     requires { entries_in unread.now < 2 ^ 64 }
     ensures { result ≡ entries_in unread.now }
 {
@@ -47,9 +47,13 @@ fn total_of(unread: &[Unread<'_>]) -> usize
     }
 }
 
-impl<'a> Reader<'a> {
+impl<'a, O: Packed, R: PackedReply> Reader<'a, O, R> {
     /// The entries of the logs, numbered from the first number.
-    pub(crate) fn of(first: u64, logs: &'a [Log], alloc: Global) -> Result<Reader<'a>, Memory>
+    pub(crate) fn of(
+        first: u64,
+        logs: &'a [Log<O, R>],
+        alloc: Global,
+    ) -> Result<Reader<'a, O, R>, Memory>
         requires { MayMerge first (lists_of logs.now) }
         ensures { IfOk result (λ reader. reader ≡ merged_from first (lists_of logs.now)) }
     {
@@ -82,7 +86,7 @@ impl<'a> Reader<'a> {
     }
 
     /// Reads the next entry.
-    pub fn next(&mut self) -> Option<Entry>
+    pub fn next(&mut self) -> Option<Entry<O, R>>
         ensures next { result ≡ slice_get self.old 0 }
         ensures rest { self.new ≡ drop 1 self.old }
     {
@@ -96,7 +100,7 @@ impl<'a> Reader<'a> {
     }
 
     /// All that were not read yet. Want of memory leaves the journal, which can be read again.
-    pub(crate) fn collect(mut self, alloc: Global) -> Result<Vec<Entry>, Memory>
+    pub(crate) fn collect(mut self, alloc: Global) -> Result<Vec<Entry<O, R>>, Memory>
         ensures { IfOk result (λ list. list.items ≡ self.entry) }
     {
         let mut list = Vec::with_capacity(alloc, self.len())?;

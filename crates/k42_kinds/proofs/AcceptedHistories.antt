@@ -8,7 +8,9 @@ use Rattle.std.proofs.lemmas.List.{nil_from_length}
 use Rattle.k42_kinds.specs.declared.page.Page.{Page}
 use Rattle.k42_kinds.specs.declared.operation.KindName.TheVariants as kinds
 use Rattle.k42_kinds.specs.declared.operation.LayoutName.TheVariants.{Shared, Spread}
+use Rattle.k42_kinds.specs.declared.operation.Op.{Op}
 use Rattle.k42_kinds.specs.declared.operation.Op.TheVariants.{Add, Get, Bind, Find, Unbind, Size, Write, Read, Dirty, Clean}
+use Rattle.k42_kinds.specs.declared.operation.Reply.{Reply}
 use Rattle.k42_kinds.specs.declared.operation.Reply.TheVariants as replies
 use Rattle.k42_kinds.specs.declared.entry.Act.TheVariants.{Call, Swap}
 use Rattle.k42_kinds.specs.declared.entry.To.TheVariants.{Layout, Dead}
@@ -32,14 +34,14 @@ thrice_swapped = legal_history _ _ (search arith) (search arith)
 destroyed_counter : IsLegalHistory (kinds.Counter ∷ []) (line 1 0 0 0 (Swap Dead) (Swapped 1) ∷ line 2 0 1 1 (Call Get) (Replied replies.Gone) ∷ line 3 0 2 1 (Swap (Layout Shared)) Gone ∷ line 4 0 3 1 (Swap Dead) Gone ∷ [])
 destroyed_counter = legal_history _ _ (search arith) (search arith)
 
-abbrev two_callers : List Entry
+abbrev two_callers : List (Entry Op Reply)
 two_callers = line 1 0 0 0 (Call (Add 5)) (Replied replies.Done) ∷ line 2 1 0 0 (Call (Add 7)) (Replied replies.Done) ∷ line 3 1 1 0 (Call Get) (Replied (replies.Number 12)) ∷ line 4 0 1 0 (Call Get) (Replied (replies.Number 12)) ∷ []
 
 two_callers_legal : IsLegalHistory (kinds.Counter ∷ []) two_callers
 two_callers_legal = legal_history _ _ (search arith) (search arith)
 
 -- what the first of them asked, with other stamps
-abbrev asked : List Entry
+abbrev asked : List (Entry Op Reply)
 asked = line 0 0 0 0 (Call (Add 5)) (Replied replies.Done) ∷ line 0 0 1 0 (Call Get) (Replied (replies.Number 12)) ∷ []
 
 two_callers_in_order : IsInOrder two_callers 0 asked
@@ -66,10 +68,10 @@ refused_before_another_object : IsLegalHistory (kinds.Counter ∷ kinds.Counter 
 refused_before_another_object = legal_history _ _ (search arith) (search arith)
 
 -- whatever came before: the swap before the last incarnation is carried out, and it is the last one
-last_swap : (before : List Entry) → IsAlive kinds.Counter 0 before → number_of 0 before ≡ 1048574 → IsLegal kinds.Counter before (line 1 0 0 1048574 (Swap (Layout Shared)) (Swapped 1048575)) []
+last_swap : (before : List (Entry Op Reply)) → IsAlive kinds.Counter 0 before → number_of 0 before ≡ 1048574 → IsLegal kinds.Counter before (line 1 0 0 1048574 (Swap (Layout Shared)) (Swapped 1048575)) []
 last_swap before alive number = record { next = omega (arith, number); alive = alive; unspent = omega (arith, number); incarnation = omega (arith, number) }
 
-spent_at_the_last : (before : List Entry) → IsAlive kinds.Counter 0 before → number_of 0 before ≡ 1048575 → IsLegal kinds.Counter before (line 1 0 0 1048575 (Swap (Layout Shared)) Spent) []
+spent_at_the_last : (before : List (Entry Op Reply)) → IsAlive kinds.Counter 0 before → number_of 0 before ≡ 1048575 → IsLegal kinds.Counter before (line 1 0 0 1048575 (Swap (Layout Shared)) Spent) []
 spent_at_the_last before alive number = record { alive = alive; spent = omega (arith, number); incarnation = omega (arith, number) }
 
 -- the name `x`

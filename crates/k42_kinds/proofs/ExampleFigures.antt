@@ -1,6 +1,7 @@
 -- What `seen` of object 0 must reply after some histories, which need not be legal.
 use Rattle.std.proofs.Common.{◌≡◌, ◌-◌, ◌^◌, List, [], ◌∷◌, Some, refl}
 use Rattle.k42_kinds.specs.declared.operation.LayoutName.TheVariants.{Spread}
+use Rattle.k42_kinds.specs.declared.operation.Op.{Op}
 use Rattle.k42_kinds.specs.declared.operation.Op.TheVariants.{Add, Seen}
 use Rattle.k42_kinds.specs.declared.operation.Reply.{Reply}
 use Rattle.k42_kinds.specs.declared.operation.Reply.TheVariants.{Done, None, Number, Gone as IsGone}
@@ -12,16 +13,16 @@ use Rattle.k42_kinds.specs.Figures.{figure}
 use Rattle.k42_kinds.specs.Watched.{counted}
 use Rattle.k42_kinds.proofs.ExampleLines.{line, on}
 
-record IsFigure (history : List Entry) (reply : Reply) : Type 0 where
+record IsFigure (history : List (Entry Op Reply)) (reply : Reply) : Type 0 where
   told : figure 0 history ≡ reply
 
-abbrev watch : Entry
+abbrev watch : Entry Op Reply
 watch = line 1 0 0 0 (Swap Watch) (Swapped 1)
 
-abbrev added : Entry
+abbrev added : Entry Op Reply
 added = line 2 0 1 1 (Call (Add 5)) (Replied Done)
 
-abbrev asked : Entry
+abbrev asked : Entry Op Reply
 asked = line 3 0 2 1 (Call Seen) (Replied (Number 1))
 
 none_at_first : IsFigure [] None

@@ -5,9 +5,9 @@ use Rattle.k42_kinds.specs.declared.entry.Answer.{Answer}
 use Rattle.k42_kinds.specs.declared.entry.Entry.{Entry}
 
 -- an entry of object 0, by its stamp, caller, index and incarnation
-abbrev pub line : ℕ → ℕ → ℕ → ℕ → Act → Answer → Entry
+abbrev pub line : {O R : Type 0} → ℕ → ℕ → ℕ → ℕ → Act O → Answer R → Entry O R
 line stamp caller index incarnation act answer = record { stamp = stamp; caller = caller; index = index; object = 0; incarnation = incarnation; cell = 0; act = act; answer = answer; proc = 0; generation = None }
 
 -- the same entry of another object
-abbrev pub on : ℕ → Entry → Entry
+abbrev pub on : {O R : Type 0} → ℕ → Entry O R → Entry O R
 on object entry = record entry { object = object }

@@ -8,18 +8,17 @@ use Rattle.k42_kinds.specs.declared.operation.KindName.{KindName}
 use Rattle.k42_kinds.specs.declared.operation.KindName.TheVariants as kinds
 use Rattle.k42_kinds.specs.declared.operation.Op.{Op}
 use Rattle.k42_kinds.specs.declared.operation.Op.TheVariants.{Add, Get, Drain, Bind, Find, Unbind, Size, Write, Read, Dirty, Clean, Seen}
+use Rattle.k42_kinds.specs.declared.operation.Reply.{Reply}
 use Rattle.k42_kinds.specs.declared.operation.Reply.TheVariants as replies
 use Rattle.k42_kinds.specs.declared.states.AnyState.{AnyState}
 use Rattle.k42_kinds.specs.declared.states.AnyState.TheVariants as states
 use Rattle.k42_kinds.specs.declared.watch.WatchState.{WatchState}
 use Rattle.k42_kinds.specs.declared.entry.Act.{Act}
 use Rattle.k42_kinds.specs.declared.entry.Act.TheVariants.{Call, Swap}
-use Rattle.k42_kinds.specs.declared.entry.To.{To}
 use Rattle.k42_kinds.specs.declared.entry.To.TheVariants.{Layout, Dead, Watch, Unwatch}
 use Rattle.k42_kinds.specs.declared.entry.Answer.{Answer}
 use Rattle.k42_kinds.specs.declared.entry.Answer.TheVariants.{Replied}
 use Rattle.k42_kinds.specs.declared.entry.Entry.{Entry}
-use Rattle.k42_kinds.specs.OneThread.{OneThread}
 use Rattle.k42_kinds.specs.Objects.{plain_object, state_after, empty_state, is_dead}
 use Rattle.k42_kinds.specs.Histories.{AtEachPlace, state_moved, state_moved_by, state_in, is_carried_out}
 use Rattle.k42_kinds.specs.Legal.{IsLegalHistoryOf, IsLegalActOf, IsLegalCallOf}
@@ -49,11 +48,11 @@ asked_left (states.Pages pages) = refl
 asked_left states.Dead = refl
 
 -- the count after an act that was carried out or not
-abbrev seen_moved : Option ℕ → Act → Bool → Option ℕ
+abbrev seen_moved : Option ℕ → Act Op → Bool → Option ℕ
 seen_moved seen (Call op) carried = if is_seen op then seen else counted seen
 seen_moved seen (Swap to) carried = if carried then seen_after seen to else seen
 
-abbrev seen_by : ℕ → Option ℕ → Entry → Option ℕ
+abbrev seen_by : ℕ → Option ℕ → Entry Op Reply → Option ℕ
 seen_by number seen entry = if entry.object == number then seen_moved seen entry.act (is_carried_out entry.answer) else seen
 
 call_moved : (kind : KindName) (state : WatchState AnyState) (op : Op) (b : Bool) → is_seen op ≡ b
@@ -62,18 +61,18 @@ call_moved kind state op true is = rw is (ap (λ inner. watch_state inner state.
 call_moved kind state op false is = rw is refl
 
 -- a watched object is the object within, and beside it the count
-act_moved : (kind : KindName) (state : WatchState AnyState) (act : Act) (answer : Answer) (carried : Bool) → is_carried_out answer ≡ carried
+act_moved : (kind : KindName) (state : WatchState AnyState) (act : Act Op) (answer : Answer Reply) (carried : Bool) → is_carried_out answer ≡ carried
     → state_moved (watched_object kind) state act answer ≡ watch_state (state_moved (plain_object kind) state.inner act answer) (seen_moved state.seen act (is_carried_out answer))
 act_moved kind state (Call op) answer carried is = call_moved kind state op (is_seen op) refl
 act_moved kind state (Swap to) answer true is = rw is refl
 act_moved kind state (Swap to) answer false is = rw is refl
 
-entry_moved : (kind : KindName) (number : ℕ) (state : WatchState AnyState) (entry : Entry) (own : Bool) → (entry.object == number) ≡ own
+entry_moved : (kind : KindName) (number : ℕ) (state : WatchState AnyState) (entry : Entry Op Reply) (own : Bool) → (entry.object == number) ≡ own
     → state_moved_by (watched_object kind) number state entry ≡ watch_state (state_moved_by (plain_object kind) number state.inner entry) (seen_by number state.seen entry)
 entry_moved kind number state entry true is = rw is (act_moved kind state entry.act entry.answer (is_carried_out entry.answer) refl)
 entry_moved kind number state entry false is = rw is refl
 
-history_moved : (kind : KindName) (number : ℕ) (state : WatchState AnyState) (history : List Entry)
+history_moved : (kind : KindName) (number : ℕ) (state : WatchState AnyState) (history : List (Entry Op Reply))
     → fold (state_moved_by (watched_object kind) number) state history ≡ watch_state (fold (state_moved_by (plain_object kind) number) state.inner history) (fold (seen_by number) state.seen history)
 history_moved kind number state [] = refl
 history_moved kind number state (entry ∷ rest) =
@@ -100,7 +99,7 @@ dead_call (states.Pages pages) op = refl
 dead_call states.Dead op = refl
 
 -- whether it is dead after an act on it that was carried out or not
-dead_act : (kind : KindName) (state : AnyState) (act : Act) (answer : Answer) (carried : Bool) → is_carried_out answer ≡ carried
+dead_act : (kind : KindName) (state : AnyState) (act : Act Op) (answer : Answer Reply) (carried : Bool) → is_carried_out answer ≡ carried
     → is_dead (state_moved (plain_object kind) state act answer) ≡ (is_dead state || (carried && is_destroy act))
 dead_act kind state (Call op) answer true is = dead_call state op ∙ sym (or-false (is_dead state))
 dead_act kind state (Call op) answer false is = dead_call state op ∙ sym (or-false (is_dead state))
@@ -110,12 +109,12 @@ dead_act kind state (Swap Dead) answer true is = rw is (sym (or-true (is_dead st
 dead_act kind state (Swap Watch) answer true is = rw is (sym (or-false (is_dead state)))
 dead_act kind state (Swap Unwatch) answer true is = rw is (sym (or-false (is_dead state)))
 
-dead_entry : (kind : KindName) (number : ℕ) (state : AnyState) (entry : Entry) (own : Bool) → (entry.object == number) ≡ own
+dead_entry : (kind : KindName) (number : ℕ) (state : AnyState) (entry : Entry Op Reply) (own : Bool) → (entry.object == number) ≡ own
     → is_dead (state_moved_by (plain_object kind) number state entry) ≡ (is_dead state || destroys number entry)
 dead_entry kind number state entry true is = rw is (dead_act kind state entry.act entry.answer (is_carried_out entry.answer) refl)
 dead_entry kind number state entry false is = rw is (sym (or-false (is_dead state)))
 
-dead_history : (kind : KindName) (number : ℕ) (state : AnyState) (history : List Entry)
+dead_history : (kind : KindName) (number : ℕ) (state : AnyState) (history : List (Entry Op Reply))
     → is_dead (fold (state_moved_by (plain_object kind) number) state history) ≡ (is_dead state || list_any (destroys number) history)
 dead_history kind number state [] = sym (or-false (is_dead state))
 dead_history kind number state (entry ∷ rest) =
@@ -139,12 +138,12 @@ grown (Some count) more = Some ((count + more) % 2 ^ 64)
 grown None more = None
 
 -- the count after a history, by what is found last in it
-abbrev seen_behind : ℕ → Option ℕ → List Entry → Option (Entry × List Entry) → Option ℕ
+abbrev seen_behind : ℕ → Option ℕ → List (Entry Op Reply) → Option (Entry Op Reply × List (Entry Op Reply)) → Option ℕ
 seen_behind number seen history (Some last) = if is_watch last.0.act then Some (count_by (counts number) last.1 % 2 ^ 64) else None
 seen_behind number seen history None = grown seen (count_by (counts number) history)
 
 -- a watch or an unwatch sets the count
-count_set : (own carried : Bool) (act : Act) (seen : Option ℕ) → ((own && carried) && (is_watch act || is_unwatch act)) ≡ true
+count_set : (own carried : Bool) (act : Act Op) (seen : Option ℕ) → ((own && carried) && (is_watch act || is_unwatch act)) ≡ true
     → (if own then seen_moved seen act carried else seen) ≡ (if is_watch act then Some 0 else None)
 count_set false carried act seen is = absurd (cc is)
 count_set true false act seen is = absurd (cc is)
@@ -159,7 +158,7 @@ call_counted seen true = refl
 call_counted seen false = refl
 
 -- every other entry but a destroy leaves it, or counts
-count_moved : (own carried : Bool) (act : Act) (seen : Option ℕ) → ((own && carried) && (is_watch act || is_unwatch act)) ≡ false → ((own && carried) && is_destroy act) ≡ false
+count_moved : (own carried : Bool) (act : Act Op) (seen : Option ℕ) → ((own && carried) && (is_watch act || is_unwatch act)) ≡ false → ((own && carried) && is_destroy act) ≡ false
     → (if own then seen_moved seen act carried else seen) ≡ (if own && is_counted act then counted seen else seen)
 count_moved false carried act seen changes destroyed = refl
 count_moved true carried (Call op) seen changes destroyed = call_counted seen (is_seen op)
@@ -177,7 +176,7 @@ small_call : (seen : Option ℕ) (b : Bool) → IsSmall seen → IsSmall (if b t
 small_call seen true small = small
 small_call seen false small = counted_small seen
 
-small_moved : (own carried : Bool) (act : Act) (seen : Option ℕ) → IsSmall seen → IsSmall (if own then seen_moved seen act carried else seen)
+small_moved : (own carried : Bool) (act : Act Op) (seen : Option ℕ) → IsSmall seen → IsSmall (if own then seen_moved seen act carried else seen)
 small_moved false carried act seen small = small
 small_moved true carried (Call op) seen small = small_call seen (is_seen op) small
 small_moved true false (Swap to) seen small = small
@@ -198,10 +197,10 @@ grown-one : (seen : Option ℕ) (more : ℕ) → grown (counted seen) more ≡ g
 grown-one (Some count) more = ap Some (grind (arith, common_steps))
 grown-one None more = refl
 
-counts-cons : (number : ℕ) (entry : Entry) (rest : List Entry) → count_by (counts number) (entry ∷ rest) ≡ cond (counts number entry) 1 0 + count_by (counts number) rest
+counts-cons : (number : ℕ) (entry : Entry Op Reply) (rest : List (Entry Op Reply)) → count_by (counts number) (entry ∷ rest) ≡ cond (counts number entry) 1 0 + count_by (counts number) rest
 counts-cons number entry rest = omega (arith, sum_by-append (λ one. cond (counts number one) 1 0) (entry ∷ []) rest)
 
-grown-next : (number : ℕ) (entry : Entry) (rest : List Entry) (seen : Option ℕ) (b : Bool) → counts number entry ≡ b
+grown-next : (number : ℕ) (entry : Entry Op Reply) (rest : List (Entry Op Reply)) (seen : Option ℕ) (b : Bool) → counts number entry ≡ b
     → grown (if b then counted seen else seen) (count_by (counts number) rest) ≡ grown seen (count_by (counts number) (entry ∷ rest))
 grown-next number entry rest seen true is = grown-one seen (count_by (counts number) rest) ∙ ap (grown seen) (sym (counts-cons number entry rest ∙ rw is refl))
 grown-next number entry rest seen false is = ap (grown seen) (sym (counts-cons number entry rest ∙ rw is (omega arith)))
@@ -215,7 +214,7 @@ or_false_last true b is = absurd (cc is)
 or_false_last false b is = is
 
 -- what is found behind one more entry at the front
-seen-cons : (number : ℕ) (seen : Option ℕ) (entry : Entry) (rest : List Entry) (found : Option (Entry × List Entry)) (b : Bool) → changes_layer number entry ≡ b → destroys number entry ≡ false
+seen-cons : (number : ℕ) (seen : Option ℕ) (entry : Entry Op Reply) (rest : List (Entry Op Reply)) (found : Option (Entry Op Reply × List (Entry Op Reply))) (b : Bool) → changes_layer number entry ≡ b → destroys number entry ≡ false
     → seen_behind number (seen_by number seen entry) rest found ≡ seen_behind number seen (entry ∷ rest) (option_or found (if b then Some (entry, rest) else None))
 seen-cons number seen entry rest (Some last) b is kept = refl
 seen-cons number seen entry rest None true is kept =
@@ -226,7 +225,7 @@ seen-cons number seen entry rest None false is kept =
     ∙ grown-next number entry rest seen (counts number entry) refl
 
 -- while the object is not destroyed
-seen_in_all : (number : ℕ) (seen : Option ℕ) (history : List Entry) → IsSmall seen → list_any (destroys number) history ≡ false
+seen_in_all : (number : ℕ) (seen : Option ℕ) (history : List (Entry Op Reply)) → IsSmall seen → list_any (destroys number) history ≡ false
     → fold (seen_by number) seen history ≡ seen_behind number seen history (last_such (changes_layer number) history)
 seen_in_all number seen [] small kept = sym (grown-none seen small)
 seen_in_all number seen (entry ∷ rest) small kept =
@@ -237,11 +236,11 @@ told-watched : (b : Bool) (count : ℕ) → told false (if b then Some count els
 told-watched true count = refl
 told-watched false count = refl
 
-told_behind : (number : ℕ) (history : List Entry) (found : Option (Entry × List Entry)) → told false (seen_behind number None history found) ≡ figure_behind number found
+told_behind : (number : ℕ) (history : List (Entry Op Reply)) (found : Option (Entry Op Reply × List (Entry Op Reply))) → told false (seen_behind number None history found) ≡ figure_behind number found
 told_behind number history (Some last) = told-watched (is_watch last.0.act) (count_by (counts number) last.1 % 2 ^ 64)
 told_behind number history None = refl
 
-told_in_all : (number : ℕ) (history : List Entry) (b : Bool) → list_any (destroys number) history ≡ b → told b (fold (seen_by number) None history) ≡ figure number history
+told_in_all : (number : ℕ) (history : List (Entry Op Reply)) (b : Bool) → list_any (destroys number) history ≡ b → told b (fold (seen_by number) None history) ≡ figure number history
 told_in_all number history true is = rw is refl
 told_in_all number history false is =
     ap (λ seen. told false seen) (seen_in_all number None history tt is)
@@ -249,7 +248,7 @@ told_in_all number history false is =
     ∙ rw is refl
 
 -- what a watched object tells is its figure, whatever its history
-pub figure_told : (kind : KindName) (number : ℕ) (history : List Entry)
+pub figure_told : (kind : KindName) (number : ℕ) (history : List (Entry Op Reply))
     → (watched_object kind).reply (state_in (watched_object kind) number history) Seen ≡ figure number history
 figure_told kind number history =
     let dead = dead_history kind number (empty_state kind) history ∙ ap (λ b. b || list_any (destroys number) history) (starts_alive kind) in
@@ -257,10 +256,10 @@ figure_told kind number history =
     ∙ ap (λ b. told b (fold (seen_by number) None history)) dead
     ∙ told_in_all number history (list_any (destroys number) history) refl
 
-pub figures_told : (kinds : List KindName) (history : List Entry) → IsLegalHistoryOf watched_object kinds history → AtEachPlace TellsFigure history
+pub figures_told : (kinds : List KindName) (history : List (Entry Op Reply)) → IsLegalHistoryOf watched_object kinds history → AtEachPlace TellsFigure history
 figures_told kinds history legal = λ before entry after split. record {
   replied = λ asks.
       let was = legal.legal before entry after split in
-      let call : IsLegalCallOf (watched_object was.kind) before entry Seen = subst (λ (act : Act). IsLegalActOf (watched_object was.kind) before entry after act) asks was.legal in
+      let call : IsLegalCallOf (watched_object was.kind) before entry Seen = subst (λ (act : Act Op). IsLegalActOf (watched_object was.kind) before entry after act) asks was.legal in
       call.replied ∙ ap Replied (figure_told was.kind entry.object before);
 }

@@ -1,7 +1,9 @@
 -- How an object that was declared shared is kept after some histories.
 use Rattle.std.proofs.Common.{◌≡◌, List, [], ◌∷◌, refl}
 use Rattle.k42_kinds.specs.declared.operation.LayoutName.TheVariants.{Shared, Spread}
+use Rattle.k42_kinds.specs.declared.operation.Op.{Op}
 use Rattle.k42_kinds.specs.declared.operation.Op.TheVariants.{Get}
+use Rattle.k42_kinds.specs.declared.operation.Reply.{Reply}
 use Rattle.k42_kinds.specs.declared.operation.Reply.TheVariants as replies
 use Rattle.k42_kinds.specs.declared.entry.Act.TheVariants.{Call, Swap}
 use Rattle.k42_kinds.specs.declared.entry.To.{To}
@@ -12,13 +14,13 @@ use Rattle.k42_kinds.specs.Histories.{implementation_of}
 use Rattle.k42_kinds.proofs.ExampleLines.{line, on}
 
 -- the object 0 is kept so after this history
-record IsKept (history : List Entry) (implementation : To) : Type 0 where
+record IsKept (history : List (Entry Op Reply)) (implementation : To) : Type 0 where
   kept : implementation_of Shared 0 history ≡ implementation
 
 as_declared : IsKept [] (Layout Shared)
 as_declared = record { kept = refl }
 
-abbrev swapped : Entry
+abbrev swapped : Entry Op Reply
 swapped = line 1 0 0 0 (Swap (Layout Spread)) (Swapped 1)
 
 as_swapped : IsKept (swapped ∷ line 2 0 1 1 (Call Get) (Replied (replies.Number 0)) ∷ []) (Layout Spread)

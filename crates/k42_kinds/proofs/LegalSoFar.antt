@@ -3,7 +3,9 @@ use Rattle.std.proofs.Common.{◌≡◌, ◌+◌, List, [], ◌∷◌, length, O
 use Rattle.k42_kinds.specs.declared.operation.KindName.{KindName}
 use Rattle.k42_kinds.specs.declared.operation.KindName.TheVariants as kinds
 use Rattle.k42_kinds.specs.declared.operation.LayoutName.TheVariants.{Spread}
+use Rattle.k42_kinds.specs.declared.operation.Op.{Op}
 use Rattle.k42_kinds.specs.declared.operation.Op.TheVariants.{Add, Get}
+use Rattle.k42_kinds.specs.declared.operation.Reply.{Reply}
 use Rattle.k42_kinds.specs.declared.operation.Reply.TheVariants as replies
 use Rattle.k42_kinds.specs.declared.entry.Act.{Act}
 use Rattle.k42_kinds.specs.declared.entry.Act.TheVariants.{Call, Swap}
@@ -17,8 +19,8 @@ use Rattle.k42_kinds.specs.Legal.{IsLegalAnswerOf, IsLegalActOf, IsLegalHistoryO
 use Rattle.k42_kinds.proofs.Splits.{each_split}
 use Rattle.k42_kinds.proofs.ExampleLines.{line}
 
-module _ {S : Type 0} (object : OneThread S) (before : List Entry) (entry : Entry) (after : List Entry) where
-  answer_so_far : (answer : Answer) → IsLegalAnswerOf object before entry after answer → IsAnswerSoFar object before entry answer
+module _ {S O R : Type 0} (object : OneThread S O R) (before : List (Entry O R)) (entry : Entry O R) (after : List (Entry O R)) where
+  answer_so_far : (answer : Answer R) → IsLegalAnswerOf object before entry after answer → IsAnswerSoFar object before entry answer
   answer_so_far (Swapped number) legal = legal
   answer_so_far Spent legal = legal
   answer_so_far Gone legal = legal
@@ -26,11 +28,11 @@ module _ {S : Type 0} (object : OneThread S) (before : List Entry) (entry : Entr
   answer_so_far (Abandoned number) legal = tt
   answer_so_far (Replied reply) legal = legal
 
-  pub act_so_far : (act : Act) → IsLegalActOf object before entry after act → IsActSoFar object before entry act
+  pub act_so_far : (act : Act O) → IsLegalActOf object before entry after act → IsActSoFar object before entry act
   act_so_far (Call op) legal = legal
   act_so_far (Swap to) legal = answer_so_far entry.answer legal
 
-pub legal_so_far : {K S : Type 0} (object_of : K → OneThread S) (declarations : List K) (history : List Entry) → IsLegalHistoryOf object_of declarations history → IsLegalSoFar object_of declarations history
+pub legal_so_far : {K S O R : Type 0} (object_of : K → OneThread S O R) (declarations : List K) (history : List (Entry O R)) → IsLegalHistoryOf object_of declarations history → IsLegalSoFar object_of declarations history
 legal_so_far object_of declarations history legal = record {
   numbered = legal.numbered;
   legal = λ before entry after split.
@@ -43,7 +45,7 @@ legal_so_far object_of declarations history legal = record {
 }
 
 -- the swap that refuses stands nowhere yet
-abbrev refused : List Entry
+abbrev refused : List (Entry Op Reply)
 refused = line 1 0 0 0 (Call (Add 5)) (Replied replies.Done) ∷ line 2 0 1 0 (Swap (Layout Spread)) (Busy 1) ∷ []
 
 refused_so_far : IsLegalSoFar watched_object (kinds.Counter ∷ []) refused
@@ -53,7 +55,7 @@ refused_so_far = record {
 }
 
 -- a wrong reply is not legal so far
-abbrev misread : Entry
+abbrev misread : Entry Op Reply
 misread = line 1 0 0 0 (Call Get) (Replied (replies.Number 6))
 
 wrong_call : (kind : KindName) → ◌≡◌ {A = Option KindName} (Some kinds.Counter) (Some kind) → IsActSoFar (watched_object kind) [] misread (Call Get) → ⊥

@@ -16,3 +16,4 @@ pub mod Implementations
 pub mod SeenMaps
 pub mod FiniteMaps
 pub mod ObjectLaws
+pub mod PackedLemmas

@@ -4,7 +4,9 @@ use Rattle.std.specs.List.{AllByRecursion}
 use Rattle.k42_kinds.specs.declared.operation.KindName.{KindName}
 use Rattle.k42_kinds.specs.declared.operation.KindName.TheVariants as kinds
 use Rattle.k42_kinds.specs.declared.operation.LayoutName.TheVariants.{Spread}
+use Rattle.k42_kinds.specs.declared.operation.Op.{Op}
 use Rattle.k42_kinds.specs.declared.operation.Op.TheVariants.{Add, Get, Size}
+use Rattle.k42_kinds.specs.declared.operation.Reply.{Reply}
 use Rattle.k42_kinds.specs.declared.operation.Reply.TheVariants.{Done, Number}
 use Rattle.k42_kinds.specs.declared.entry.Act.{Act}
 use Rattle.k42_kinds.specs.declared.entry.Act.TheVariants.{Call, Swap}
@@ -19,17 +21,17 @@ use Rattle.k42_kinds.proofs.LegalHistories.{legal_history, illegal_at}
 use Rattle.k42_kinds.proofs.ExampleLines.{line, on}
 
 -- the acts that are no calls
-abbrev swap : Act
+abbrev swap : Act Op
 swap = Swap (Layout Spread)
 
-abbrev destroy : Act
+abbrev destroy : Act Op
 destroy = Swap Dead
 
 -- the entry of a counter is not legal between these, whatever these are
-abbrev IsIllegal : List Entry → Entry → List Entry → Type 0
+abbrev IsIllegal : List (Entry Op Reply) → Entry Op Reply → List (Entry Op Reply) → Type 0
 IsIllegal before entry after = IsLegal kinds.Counter before entry after → ⊥
 
-no_rival : {before : List Entry} {entry : Entry} {after : List Entry} {number : ℕ} → AllByRecursion (λ other. IsRival entry number other → ⊥) (before ++ after) →
+no_rival : {before : List (Entry Op Reply)} {entry : Entry Op Reply} {after : List (Entry Op Reply)} {number : ℕ} → AllByRecursion (λ other. IsRival entry number other → ⊥) (before ++ after) →
     IsLegalRefusal before entry after number → ⊥
 no_rival {before} {entry} {after} {number} none legal = none-Any (IsRival entry number) (before ++ after) none legal.rival
 
@@ -90,7 +92,7 @@ swapped_in_a_former_implementation legal = grind (arith, legal.incarnation)
 number_again : IsIllegal (line 1 0 0 0 swap (Swapped 1) ∷ []) (line 2 0 1 1 swap (Swapped 1)) []
 number_again legal = grind (arith, legal.next)
 
-spent_in_a_former_implementation : (before : List Entry) → number_of 0 before ≡ 1048575 → IsIllegal before (line 1 0 0 1048574 swap Spent) []
+spent_in_a_former_implementation : (before : List (Entry Op Reply)) → number_of 0 before ≡ 1048575 → IsIllegal before (line 1 0 0 1048574 swap Spent) []
 spent_in_a_former_implementation before counted legal = omega (arith, counted, legal.incarnation)
 
 gone_in_a_former_implementation : IsIllegal (line 1 0 0 0 destroy (Swapped 1) ∷ []) (line 2 0 1 0 swap Gone) []
@@ -133,7 +135,7 @@ undeclared_object history = undeclared (history.legal [] (on 1 (line 1 0 0 0 (Ca
 -- ---- what is not legal so far
 
 -- the entry of a counter is not legal so far behind these
-abbrev IsIllegalSoFar : List Entry → Entry → Type 0
+abbrev IsIllegalSoFar : List (Entry Op Reply) → Entry Op Reply → Type 0
 IsIllegalSoFar before entry = IsActSoFar (watched_object kinds.Counter) before entry entry.act → ⊥
 
 call_answered_as_swap_so_far : IsIllegalSoFar [] (line 1 0 0 0 (Call Get) (Swapped 1))

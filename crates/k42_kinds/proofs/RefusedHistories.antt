@@ -3,7 +3,9 @@ use Rattle.std.proofs.Common.{◌≡◌, ℕ, List, [], ◌∷◌, ◌++◌, ref
 use Rattle.std.specs.List.{AllByRecursion}
 use Rattle.k42_kinds.specs.declared.operation.KindName.TheVariants.{Counter}
 use Rattle.k42_kinds.specs.declared.operation.LayoutName.TheVariants.{Shared, Spread}
+use Rattle.k42_kinds.specs.declared.operation.Op.{Op}
 use Rattle.k42_kinds.specs.declared.operation.Op.TheVariants.{Add, Get, Size}
+use Rattle.k42_kinds.specs.declared.operation.Reply.{Reply}
 use Rattle.k42_kinds.specs.declared.operation.Reply.TheVariants as replies
 use Rattle.k42_kinds.specs.declared.entry.Act.TheVariants.{Call, Swap}
 use Rattle.k42_kinds.specs.declared.entry.To.{To}
@@ -19,19 +21,19 @@ use Rattle.k42_kinds.proofs.LegalHistories.{illegal_at, refusal_of_swap}
 use Rattle.k42_kinds.proofs.ExampleLines.{line, on}
 
 -- no history of two counters that has this entry between these is legal
-record IsRefused (before : List Entry) (entry : Entry) (after : List Entry) : Type 0 where
+record IsRefused (before : List (Entry Op Reply)) (entry : Entry Op Reply) (after : List (Entry Op Reply)) : Type 0 where
   refused : IsLegalHistory (Counter ∷ Counter ∷ []) (before ++ entry ∷ after) → ⊥
 
-illegal : {before : List Entry} {entry : Entry} {after : List Entry} → entry.object ≡ 0 → (IsLegal Counter before entry after → ⊥) → IsRefused before entry after
+illegal : {before : List (Entry Op Reply)} {entry : Entry Op Reply} {after : List (Entry Op Reply)} → entry.object ≡ 0 → (IsLegal Counter before entry after → ⊥) → IsRefused before entry after
 illegal {before} {entry} {after} declared not_legal = record { refused = illegal_at (Counter ∷ Counter ∷ []) Counter before entry after (rw declared) not_legal }
 
-no_rival : {before : List Entry} {entry : Entry} {after : List Entry} (to : To) (number : ℕ) → entry.object ≡ 0 → entry.act ≡ Swap to → entry.answer ≡ Busy number → AllByRecursion (λ other. IsRival entry number other → ⊥) (before ++ after) → IsRefused before entry after
+no_rival : {before : List (Entry Op Reply)} {entry : Entry Op Reply} {after : List (Entry Op Reply)} (to : To) (number : ℕ) → entry.object ≡ 0 → entry.act ≡ Swap to → entry.answer ≡ Busy number → AllByRecursion (λ other. IsRival entry number other → ⊥) (before ++ after) → IsRefused before entry after
 no_rival {before} {entry} {after} to number declared act answer none = illegal declared (λ legal. none-Any (IsRival entry number) (before ++ after) none (refusal_of_swap Counter before entry after to number act answer legal).rival)
 
-abbrev added : Entry
+abbrev added : Entry Op Reply
 added = line 1 0 0 0 (Call (Add 5)) (Replied replies.Done)
 
-abbrev swapped : Entry
+abbrev swapped : Entry Op Reply
 swapped = line 2 0 1 0 (Swap (Layout Spread)) (Swapped 1)
 
 wrong_reply : IsRefused (added ∷ swapped ∷ []) (line 3 0 2 1 (Call Get) (Replied (replies.Number 6))) []
@@ -91,10 +93,10 @@ spent_too_early : IsRefused [] (line 1 0 0 0 (Swap (Layout Shared)) Spent) []
 spent_too_early = illegal refl (λ legal. grind arith)
 
 -- whatever came before: no swap goes past the last incarnation, and none is spent before it
-swap_past_the_last : (before : List Entry) (number : ℕ) → number_of 0 before ≡ 1048575 → IsLegal Counter before (line 1 0 0 1048575 (Swap (Layout Shared)) (Swapped number)) [] → ⊥
+swap_past_the_last : (before : List (Entry Op Reply)) (number : ℕ) → number_of 0 before ≡ 1048575 → IsLegal Counter before (line 1 0 0 1048575 (Swap (Layout Shared)) (Swapped number)) [] → ⊥
 swap_past_the_last before number counted legal = omega (arith, counted, legal.unspent)
 
-spent_before_the_last : (before : List Entry) → number_of 0 before ≡ 1048574 → IsLegal Counter before (line 1 0 0 1048574 (Swap (Layout Shared)) Spent) [] → ⊥
+spent_before_the_last : (before : List (Entry Op Reply)) → number_of 0 before ≡ 1048574 → IsLegal Counter before (line 1 0 0 1048574 (Swap (Layout Shared)) Spent) [] → ⊥
 spent_before_the_last before counted legal = omega (arith, counted, legal.spent)
 
 gone_while_alive : IsRefused [] (line 1 0 0 0 (Swap (Layout Shared)) Gone) []
@@ -104,7 +106,7 @@ swapped_when_dead : IsRefused (line 1 0 0 0 (Swap Dead) (Swapped 1) ∷ []) (lin
 swapped_when_dead = illegal refl (λ legal. grind arith)
 
 -- a dead object is never spent, however many swaps it went through
-spent_when_dead : (before : List Entry) (entry : Entry) → (state_of Counter entry.object before).inner ≡ states.Dead → IsLegallySpent Counter before entry → ⊥
+spent_when_dead : (before : List (Entry Op Reply)) (entry : Entry Op Reply) → (state_of Counter entry.object before).inner ≡ states.Dead → IsLegallySpent Counter before entry → ⊥
 spent_when_dead before entry dead legal = not_dead (state_of Counter entry.object before).inner legal.alive dead
 
 -- a dead object too takes the operations of its kind alone
@@ -112,7 +114,7 @@ call_of_another_kind : IsRefused (line 1 0 0 0 (Swap Dead) (Swapped 1) ∷ []) (
 call_of_another_kind = illegal refl (λ legal. grind arith)
 
 -- what one caller asked
-abbrev asked : List Entry
+abbrev asked : List (Entry Op Reply)
 asked = line 0 0 0 0 (Call (Add 5)) (Replied replies.Done) ∷ line 0 0 1 0 (Call Get) (Replied (replies.Number 5)) ∷ []
 
 repeated : IsInOrder (line 1 0 0 0 (Call (Add 5)) (Replied replies.Done) ∷ line 2 0 0 0 (Call (Add 5)) (Replied replies.Done) ∷ line 3 0 1 0 (Call Get) (Replied (replies.Number 5)) ∷ []) 0 asked → ⊥

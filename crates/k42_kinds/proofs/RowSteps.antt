@@ -5,8 +5,6 @@ use Rattle.std.specs.declared.result.Result.{Result}
 use Rattle.std.specs.declared.result.Result.TheVariants.{Ok, Err}
 use Rattle.std.proofs.lemmas.Option.{same_Some}
 use Rattle.k42_memory.specs.declared.Memory.{Memory}
-use Rattle.k42_kinds.specs.declared.operation.Op.{Op}
-use Rattle.k42_kinds.specs.declared.operation.Reply.{Reply}
 use Rattle.k42_kinds.specs.declared.entry.Reach.{Reach}
 use Rattle.k42_kinds.specs.declared.entry.Reach.TheVariants.{One, All}
 use Rattle.k42_kinds.specs.OneThread.{OneThread}
@@ -32,23 +30,23 @@ set-same [] cell part is = refl
 set-same (first ∷ parts) zero part is = ap (λ p. p ∷ parts) (sym (same_Some first part is))
 set-same (first ∷ parts) (suc cell) part is = ap (λ rest. first ∷ rest) (set-same parts cell part is)
 
-module _ {S P : Type 0} (object : OneThread S) (ways : Ways S P) (Whole : List P → Type 0) (parts : List P) (op : Op) where
+module _ {S P O R : Type 0} (object : OneThread S O R) (ways : Ways S P O R) (Whole : List P → Type 0) (parts : List P) (op : O) where
   module _ (cell : ℕ) (old new : P) (is : part_at parts cell ≡ Some old) (steps : StepsRow object ways Whole parts op (One cell)) where
     moved_row : new ≡ ways.part_after old op → slice_set parts cell new ≡ changed_at (λ part. ways.part_after part op) parts cell
     moved_row moved = ap (λ p. slice_set parts cell p) moved ∙ set-changed (λ part. ways.part_after part op) parts cell old is
 
-    pub whole_after_one : (result : Result Reply Memory) → Whole parts → OnOk result (new ≡ ways.part_after old op) → OnErr result (new ≡ old) → Whole (slice_set parts cell new)
+    pub whole_after_one : (result : Result R Memory) → Whole parts → OnOk result (new ≡ ways.part_after old op) → OnErr result (new ≡ old) → Whole (slice_set parts cell new)
     whole_after_one (Ok reply) whole moved same = subst Whole (sym (moved_row moved)) steps.whole
     whole_after_one (Err memory) whole moved same = subst Whole (sym (ap (λ p. slice_set parts cell p) same ∙ set-same parts cell old is)) whole
 
-    pub steps_after_one : (result : Result Reply Memory) → IfOk result (λ reply. reply ≡ ways.part_reply old op) → OnOk result (new ≡ ways.part_after old op) → IfOk result (λ reply. Steps object.after object.reply (ways.combine parts) op reply (ways.combine (slice_set parts cell new)))
+    pub steps_after_one : (result : Result R Memory) → IfOk result (λ reply. reply ≡ ways.part_reply old op) → OnOk result (new ≡ ways.part_after old op) → IfOk result (λ reply. Steps object.after object.reply (ways.combine parts) op reply (ways.combine (slice_set parts cell new)))
     steps_after_one (Ok reply) replied moved = record {
       answer = replied ∙ same_Some _ _ (ap (option_map (λ part. ways.part_reply part op)) (sym is) ∙ steps.replied);
       moved = ap ways.combine (moved_row moved) ∙ steps.moved;
     }
     steps_after_one (Err memory) replied moved = tt
 
-  pub steps_after_all : (new : List P) (result : Result Reply Memory) → StepsRow object ways Whole parts op All → IfOk result (λ reply. reply ≡ ways.row_reply parts op) → OnOk result (new ≡ ways.row_after parts op) → IfOk result (λ reply. Steps object.after object.reply (ways.combine parts) op reply (ways.combine new))
+  pub steps_after_all : (new : List P) (result : Result R Memory) → StepsRow object ways Whole parts op All → IfOk result (λ reply. reply ≡ ways.row_reply parts op) → OnOk result (new ≡ ways.row_after parts op) → IfOk result (λ reply. Steps object.after object.reply (ways.combine parts) op reply (ways.combine new))
   steps_after_all new (Ok reply) steps replied moved = record {
     answer = replied ∙ same_Some _ _ steps.replied;
     moved = ap ways.combine moved ∙ steps.moved;

@@ -18,7 +18,7 @@ amount_reply amount (Add more) = Done
 amount_reply amount Get = Number amount
 amount_reply amount _ = Gone
 
-abbrev pub last_amount : OneThread ℕ
+abbrev pub last_amount : OneThread ℕ Op Reply
 last_amount = record {
   start = 0;
   takes = λ op. true;
@@ -36,7 +36,7 @@ abbrev pub stepped : List ℕ → Op → List ℕ
 stepped [] op = []
 stepped (part ∷ parts) op = amount_after part op ∷ parts
 
-abbrev pub one_part : Ways ℕ ℕ
+abbrev pub one_part : Ways ℕ ℕ Op Reply
 one_part = record {
   reach = λ procs op proc. One 0;
   empty = λ procs cell. 0;

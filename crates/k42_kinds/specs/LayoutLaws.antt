@@ -1,6 +1,5 @@
 -- What a layout owes the object of one thread.
 use Rattle.std.specs.Prelude.{◌≡◌, ℕ, ◌<◌, ◌≤◌, List, length, Some}
-use Rattle.k42_kinds.specs.declared.operation.Op.{Op}
 use Rattle.k42_kinds.specs.declared.entry.Act.{Act}
 use Rattle.k42_kinds.specs.declared.entry.Answer.TheVariants.{Swapped}
 use Rattle.k42_kinds.specs.declared.entry.Reach.{Reach}
@@ -11,8 +10,8 @@ use Rattle.k42_kinds.specs.Rows.{Ways, part_at, row_moved, row_replied, cells_of
 
 -- an operation at these cells of the row is the step of the object, and leaves the row whole
 pub record StepsRow
-    {S P : Type 0} (object : OneThread S) (ways : Ways S P) (Whole : List P → Type 0)
-    (parts : List P) (op : Op) (reach : Reach)
+    {S P O R : Type 0} (object : OneThread S O R) (ways : Ways S P O R) (Whole : List P → Type 0)
+    (parts : List P) (op : O) (reach : Reach)
     : Type 0 where
   pub whole : Whole (row_moved ways parts op reach)
   pub moved : ways.combine (row_moved ways parts op reach) ≡ object.after (ways.combine parts) op
@@ -20,14 +19,14 @@ pub record StepsRow
 
 -- a whole row has the cells that are due, and stands for a state that the layout serves
 pub record StandsFor
-    {S P : Type 0} (ways : Ways S P) (Serves : S → Type 0) (tag procs : ℕ) (parts : List P)
+    {S P O R : Type 0} (ways : Ways S P O R) (Serves : S → Type 0) (tag procs : ℕ) (parts : List P)
     : Type 0 where
   pub sized : length parts ≡ cells_of tag procs
   pub served : Serves (ways.combine parts)
 
 -- empty parts are a whole row, which stands for the empty state unless the layout is the dead one
 pub record Begins
-    {S P : Type 0} (object : OneThread S) (ways : Ways S P) (Whole : List P → Type 0)
+    {S P O R : Type 0} (object : OneThread S O R) (ways : Ways S P O R) (Whole : List P → Type 0)
     (tag procs : ℕ)
     : Type 0 where
   pub whole : Whole (empty_row ways tag procs)
@@ -35,19 +34,19 @@ pub record Begins
 
 -- what is made of a state is a whole row that stands for it
 pub record Imports
-    {S P : Type 0} (ways : Ways S P) (Whole : List P → Type 0) (procs : ℕ) (state : S)
+    {S P O R : Type 0} (ways : Ways S P O R) (Whole : List P → Type 0) (procs : ℕ) (state : S)
     : Type 0 where
   pub whole : Whole (ways.imported procs state)
   pub back : ways.combine (ways.imported procs state) ≡ state
 
 -- what is admitted is what a carried-out swap to the layout makes of a state, whatever its number
-abbrev pub AdmitsAsSwapped : {S : Type 0} → OneThread S → Act → S → S → Type 0
+abbrev pub AdmitsAsSwapped : {S O R : Type 0} → OneThread S O R → Act O → S → S → Type 0
 AdmitsAsSwapped object act state admitted =
     (number : ℕ) → state_moved object state act (Swapped number) ≡ admitted
 
 -- two layouts keep an object in one way
 pub record Agree
-    {S P : Type 0} (these those : Ways S P) (Whole OtherWhole : ℕ → List P → Type 0)
+    {S P O R : Type 0} (these those : Ways S P O R) (Whole OtherWhole : ℕ → List P → Type 0)
     (Serves OtherServes : S → Type 0)
     : Type 0 where
   pub ways : these ≡ those
@@ -55,13 +54,13 @@ pub record Agree
   pub served : (state : S) → Serves state → OtherServes state
 
 -- a layout of the same object with the tag that is wanted
-pub record IsTagged {S : Type 0} (object old : OneThread S) (tag wanted : ℕ) : Type 0 where
+pub record IsTagged {S O R : Type 0} (object old : OneThread S O R) (tag wanted : ℕ) : Type 0 where
   pub same : object ≡ old
   pub tagged : tag ≡ wanted
 
 -- the part is that of a whole row at the cell that the operation needs
 pub record IsReached
-    {S P : Type 0} (ways : Ways S P) (Whole : ℕ → List P → Type 0) (part : P) (op : Op)
+    {S P O R : Type 0} (ways : Ways S P O R) (Whole : ℕ → List P → Type 0) (part : P) (op : O)
     : Type 0 where
   pub procs : ℕ
   pub proc : ℕ

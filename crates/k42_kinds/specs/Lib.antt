@@ -3,6 +3,8 @@ pub mod Padded
 pub mod Operations
 pub mod Pages
 pub mod OneThread
+pub mod Packing
+pub mod PackedCalls
 pub mod Objects
 pub mod Steps
 pub mod Histories

@@ -119,7 +119,7 @@ is_dead states.Dead = true
 is_dead _ = false
 
 -- the plain object of a kind
-abbrev pub plain_object : KindName → OneThread AnyState
+abbrev pub plain_object : KindName → OneThread AnyState Op Reply
 plain_object kind = record {
   start = empty_state kind;
   takes = takes_operation kind;
@@ -131,7 +131,7 @@ plain_object kind = record {
 
 -- The objects of each kind alone. They have no end: what was destroyed is no counter, no directory
 -- and no pages any more.
-abbrev pub counter_object : OneThread ℕ
+abbrev pub counter_object : OneThread ℕ Op Reply
 counter_object = record {
   start = 0;
   takes = takes_operation kinds.Counter;
@@ -141,7 +141,7 @@ counter_object = record {
   is_ended = λ value. false;
 }
 
-abbrev pub directory_object : OneThread Directory
+abbrev pub directory_object : OneThread Directory Op Reply
 directory_object = record {
   start = finite.empty;
   takes = takes_operation kinds.Directory;
@@ -151,7 +151,7 @@ directory_object = record {
   is_ended = λ names. false;
 }
 
-abbrev pub pages_object : OneThread Pages
+abbrev pub pages_object : OneThread Pages Op Reply
 pages_object = record {
   start = finite.empty;
   takes = takes_operation kinds.Pages;

@@ -1,22 +1,20 @@
 -- Rows of parts: an object is kept as a row of cells with a part in each.
 use Rattle.std.specs.Prelude.{ℕ, zero, suc, ◌<◌, ◌==◌, if◌then◌else◌, List, [], ◌∷◌, Option, Some, None, option_map}
-use Rattle.k42_kinds.specs.declared.operation.Op.{Op}
-use Rattle.k42_kinds.specs.declared.operation.Reply.{Reply}
 use Rattle.k42_kinds.specs.declared.entry.Reach.{Reach}
 use Rattle.k42_kinds.specs.declared.entry.Reach.TheVariants.{One, All}
 
 -- what a layout does with the parts of a row
-pub record Ways (S P : Type 0) : Type 0 where
+pub record Ways (S P O R : Type 0) : Type 0 where
   -- which cells an operation needs, by the number of processors and the caller's processor
-  pub reach : ℕ → Op → ℕ → Reach
+  pub reach : ℕ → O → ℕ → Reach
   -- the part with which an object begins, by the number of processors and the cell
   pub empty : ℕ → ℕ → P
   -- an operation on the one part that it needs
-  pub part_after : P → Op → P
-  pub part_reply : P → Op → Reply
+  pub part_after : P → O → P
+  pub part_reply : P → O → R
   -- an operation on the whole row
-  pub row_after : List P → Op → List P
-  pub row_reply : List P → Op → Reply
+  pub row_after : List P → O → List P
+  pub row_reply : List P → O → R
   -- the state for which a row stands, and the row that is made of a state
   pub combine : List P → S
   pub imported : ℕ → S → List P
@@ -31,7 +29,7 @@ made_from make first zero = []
 made_from make first (suc more) = make first ∷ made_from make (suc first) more
 
 -- the row with which an object begins
-abbrev pub empty_row : {S P : Type 0} → Ways S P → ℕ → ℕ → List P
+abbrev pub empty_row : {S P O R : Type 0} → Ways S P O R → ℕ → ℕ → List P
 empty_row ways tag procs = made_from (ways.empty procs) 0 (cells_of tag procs)
 
 abbrev pub part_at : {P : Type 0} → List P → ℕ → Option P
@@ -46,12 +44,12 @@ changed_at change (part ∷ parts) zero = change part ∷ parts
 changed_at change (part ∷ parts) (suc cell) = part ∷ changed_at change parts cell
 
 -- the parts after an operation at the cell or cells that it needs
-abbrev pub row_moved : {S P : Type 0} → Ways S P → List P → Op → Reach → List P
+abbrev pub row_moved : {S P O R : Type 0} → Ways S P O R → List P → O → Reach → List P
 row_moved ways parts op (One cell) = changed_at (λ part. ways.part_after part op) parts cell
 row_moved ways parts op All = ways.row_after parts op
 
 -- and what it is replied there; an operation at a cell that is not in the row has no reply
-abbrev pub row_replied : {S P : Type 0} → Ways S P → List P → Op → Reach → Option Reply
+abbrev pub row_replied : {S P O R : Type 0} → Ways S P O R → List P → O → Reach → Option R
 row_replied ways parts op (One cell) = option_map (λ part. ways.part_reply part op) (part_at parts cell)
 row_replied ways parts op All = Some (ways.row_reply parts op)
 

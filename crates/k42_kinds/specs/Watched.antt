@@ -40,21 +40,30 @@ seen_after seen Dead = Nothing
 abbrev pub watch_state : {S : Type 0} → S → Option ℕ → WatchState S
 watch_state inner seen = record { inner = inner; seen = seen }
 
+-- which operations ask for the count, and what they are told, by whether the object is dead and the count
+pub record Asking (O R : Type 0) : Type 0 where
+  pub asks : O → Bool
+  pub tells : Bool → Option ℕ → R
+
+-- of the operations of the three kinds one asks
+abbrev pub seen_asking : Asking Op Reply
+seen_asking = record { asks = is_seen; tells = told }
+
 -- It is the object within, and counts each call but those that ask for the count.
-abbrev pub watched : {S : Type 0} → OneThread S → OneThread (WatchState S)
-watched object = record {
+abbrev pub watched : {S O R : Type 0} → Asking O R → OneThread S O R → OneThread (WatchState S) O R
+watched asking object = record {
   start = watch_state object.start Nothing;
-  takes = λ op. is_seen op || object.takes op;
+  takes = λ op. asking.asks op || object.takes op;
   after = λ state op.
-      if is_seen op then state
+      if asking.asks op then state
       else watch_state (object.after state.inner op) (counted state.seen);
   reply = λ state op.
-      if is_seen op then told (object.is_ended state.inner) state.seen
+      if asking.asks op then asking.tells (object.is_ended state.inner) state.seen
       else object.reply state.inner op;
   swapped = λ state to. watch_state (object.swapped state.inner to) (seen_after state.seen to);
   is_ended = λ state. object.is_ended state.inner;
 }
 
 -- the watched object of a kind
-abbrev pub watched_object : KindName → OneThread (WatchState AnyState)
-watched_object kind = watched (plain_object kind)
+abbrev pub watched_object : KindName → OneThread (WatchState AnyState) Op Reply
+watched_object kind = watched seen_asking (plain_object kind)

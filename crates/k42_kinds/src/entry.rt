@@ -1,13 +1,13 @@
 //! The lines of a history: who asked what of which object, and the answer.
 ghost use Rattle.std.specs.Prelude.{◌≡◌, [], ◌∷◌, ◌++◌, OnOk, OnErr};
 
-use crate::operation::{LayoutName, Op, Reply};
+use crate::operation::LayoutName;
 use k42_memory::Memory;
 
 /// What a caller asked of an object: an operation, or that it be kept in another way.
 #[derive(Clone, Copy, Debug, PartialEq, Eq)]
-pub enum Act {
-    Call(Op),
+pub enum Act<O> {
+    Call(O),
     Swap(To),
 }
 
@@ -25,9 +25,9 @@ pub enum To {
 /// How an act was answered. The number of `Swapped`, `Busy` and `Abandoned` counts the swaps of the
 /// object from 1.
 #[derive(Clone, Copy, Debug, PartialEq, Eq)]
-pub enum Answer {
+pub enum Answer<R> {
     /// What the object replied to a call.
-    Replied(Reply),
+    Replied(R),
     /// The swap was carried out, as number so many of its object.
     Swapped(u32),
     /// Another caller's swap of this number was under way.
@@ -42,7 +42,7 @@ pub enum Answer {
 
 /// One line of a history: who did what to which object, and how it was answered.
 #[derive(Clone, Copy, Debug, PartialEq, Eq)]
-pub struct Entry {
+pub struct Entry<O, R> {
     /// Where it stands in the order of entries. In a whole history it is its place, from 1.
     pub stamp: u64,
     /// The number of this entry among its caller's, from 0.
@@ -57,22 +57,21 @@ pub struct Entry {
     /// The number of the first cell, a place for a representative, that its stamp was drawn at; 0
     /// where it was drawn at none.
     pub cell: u32,
-    pub act: Act,
-    pub answer: Answer,
+    pub act: Act<O>,
+    pub answer: Answer<R>,
     /// The caller's processor.
     pub proc: u32,
     /// The generation of the caller's activity; `None` for swaps.
     pub generation: Option<u32>,
 }
 
-impl Entry {
+impl<O: Copy + Drop, R: Copy + Drop> Entry<O, R> {
     /// Puts the entry behind the others. Want of memory leaves them.
-    pub fn push_onto(&self, entries: &mut Vec<Entry>) -> Result<(), Memory>
+    pub fn push_onto(&self, entries: &mut Vec<Entry<O, R>>) -> Result<(), Memory>
         ensures ok { OnOk result (entries.new.items ≡ entries.old.items ++ self.now ∷ []) }
         ensures memory { OnErr result (entries.new.items ≡ entries.old.items) }
     {
-        // The kit proves no `push` of a value of this type, but that of a slice.
-        entries.extend_from_slice(&[*self])?;
+        entries.push(*self)?;
         Ok(())
     }
 }

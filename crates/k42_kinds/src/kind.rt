@@ -3,7 +3,7 @@ ghost use Rattle.std.specs.Prelude.{◌≡◌, IsTrue, IfOk, OnErr};
 ghost use Rattle.k42_kinds.specs.OneThread.{OneThread};
 ghost use Rattle.k42_kinds.specs.Steps.{Steps};
 
-use crate::operation::{Op, Reply};
+use crate::packed::{Packed, PackedReply};
 use k42_memory::Memory;
 use std::alloc::Global;
 
@@ -11,15 +11,25 @@ use std::alloc::Global;
 pub trait Kind {
     type State: Drop;
 
+    /// What it is asked, and what it answers.
+    type Op: Packed + Send + Sync;
+
+    type Reply: PackedReply + Send + Sync;
+
     /// The object: its first state, its steps and its end.
-    ghost object: { Self → OneThread Self.State };
+    ghost object: { Self → OneThread Self.State Self.Op Self.Reply };
 
     /// The state before the first operation. It keeps the allocator, and asks it for nothing.
     fn empty(&self, alloc: Global) -> Self::State
         ensures { result ≡ (object self.now).start };
 
     /// One operation. Want of memory leaves the state.
-    fn step(&self, alloc: Global, state: &mut Self::State, op: &Op) -> Result<Reply, Memory>
+    fn step(
+        &self,
+        alloc: Global,
+        state: &mut Self::State,
+        op: &Self::Op,
+    ) -> Result<Self::Reply, Memory>
         requires { IsTrue ((object self.now).takes op.now) }
         ensures ok { IfOk result (λ replied.
             Steps (object self.now).after (object self.now).reply state.old op.now replied state.new) }

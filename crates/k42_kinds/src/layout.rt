@@ -1,7 +1,6 @@
 //! What a layout owes the object of one thread, as laws that each layout proves.
 ghost use Rattle.std.specs.Prelude.{◌≡◌, ◌==◌, ◌<◌, ◌≤◌, ℕ, Bool, true, false, IsTrue, List, IfOk, OnOk, OnErr};
 ghost use Rattle.k42_limits.specs.declared.TheConstants.{PROCESSORS};
-ghost use Rattle.k42_kinds.specs.declared.operation.Op.{Op};
 ghost use Rattle.k42_kinds.specs.declared.entry.Act.{Act};
 ghost use Rattle.k42_kinds.specs.declared.entry.Reach.TheVariants.{All};
 ghost use Rattle.k42_kinds.specs.OneThread.{OneThread};
@@ -11,7 +10,6 @@ ghost use Rattle.k42_kinds.specs.LayoutLaws.{StepsRow, StandsFor, Begins, Import
 
 use crate::entry::{Act, Reach};
 use crate::kind::Kind;
-use crate::operation::{Op, Reply};
 use k42_memory::Memory;
 use std::alloc::Global;
 
@@ -26,7 +24,7 @@ pub trait Layout: Kind + Copy + Send + Sync {
     ghost has_tag: { Self → ℕ → Bool };
 
     /// What it does with parts.
-    ghost ways: { Self → Ways Self.State Self.Part };
+    ghost ways: { Self → Ways Self.State Self.Part Self.Op Self.Reply };
 
     /// Which rows of parts are lawful, by the number of processors.
     ghost whole: { Self → ℕ → List Self.Part → Type 0 };
@@ -38,7 +36,7 @@ pub trait Layout: Kind + Copy + Send + Sync {
     ghost admitted: { Self → Self.State → Self.State };
 
     /// What is asked of an object that is to be kept so.
-    ghost act_of: { Self → Act };
+    ghost act_of: { Self → Act Self.Op };
 
     fn tag(&self) -> u32
         ensures { result ≡ tag_of self.now };
@@ -49,7 +47,7 @@ pub trait Layout: Kind + Copy + Send + Sync {
         ensures { IsTagged (Self.object result) (Self.object self.now) (tag_of result) tag };
 
     /// The cells that an operation needs for a caller on this processor.
-    fn reach(&self, op: &Op, proc: u32, procs: u32) -> Reach
+    fn reach(&self, op: &Self::Op, proc: u32, procs: u32) -> Reach
         requires known { (tag_of self.now ≤ 2) × (proc < procs) × (procs ≤ PROCESSORS) }
         requires takes { IsTrue ((Self.object self.now).takes op.now) }
         ensures { result ≡ (ways self.now).reach procs op.now proc };
@@ -60,7 +58,12 @@ pub trait Layout: Kind + Copy + Send + Sync {
         ensures { IfOk result (λ part. part ≡ (ways self.now).empty procs cell) };
 
     /// An operation at the one cell that it needs.
-    fn step_one(&self, alloc: Global, part: &mut Self::Part, op: &Op) -> Result<Reply, Memory>
+    fn step_one(
+        &self,
+        alloc: Global,
+        part: &mut Self::Part,
+        op: &Self::Op,
+    ) -> Result<Self::Reply, Memory>
         requires known { tag_of self.now ≤ 2 }
         requires takes { IsTrue ((Self.object self.now).takes op.now) }
         requires reached { IsReached (ways self.now) (whole self.now) part.old op.now }
@@ -69,7 +72,12 @@ pub trait Layout: Kind + Copy + Send + Sync {
         ensures memory { OnErr result (part.new ≡ part.old) };
 
     /// An operation at all cells.
-    fn step_all(&self, alloc: Global, parts: &mut Vec<Self::Part>, op: &Op) -> Result<Reply, Memory>
+    fn step_all(
+        &self,
+        alloc: Global,
+        parts: &mut Vec<Self::Part>,
+        op: &Self::Op,
+    ) -> Result<Self::Reply, Memory>
         requires known { tag_of self.now ≤ 2 }
         requires takes { IsTrue ((Self.object self.now).takes op.now) }
         requires whole { IsWholeRow (whole self.now) parts.old.items }
@@ -99,24 +107,24 @@ pub trait Layout: Kind + Copy + Send + Sync {
         requires known { tag_of self.now ≤ 2 }
         ensures { result ≡ admitted self.now state };
 
-    fn act(&self) -> Act
+    fn act(&self) -> Act<Self::Op>
         requires known { tag_of self.now ≤ 2 }
         ensures { result ≡ act_of self.now };
 
     /// An operation at the cells that it needs is a step of the object of one thread.
-    ghost steps: { (layout : Self) (procs proc : ℕ) (parts : List Self.Part) (op : Op)
+    ghost steps: { (layout : Self) (procs proc : ℕ) (parts : List Self.Part) (op : Self.Op)
         → tag_of layout ≤ 2 → proc < procs → IsTrue ((Self.object layout).takes op)
         → whole layout procs parts
         → StepsRow (Self.object layout) (ways layout) (whole layout procs) parts op ((ways layout).reach procs op proc) };
 
     /// And so is every operation at all cells.
-    ghost steps_all: { (layout : Self) (procs : ℕ) (parts : List Self.Part) (op : Op)
+    ghost steps_all: { (layout : Self) (procs : ℕ) (parts : List Self.Part) (op : Self.Op)
         → tag_of layout ≤ 2 → 0 < procs → IsTrue ((Self.object layout).takes op)
         → whole layout procs parts
         → StepsRow (Self.object layout) (ways layout) (whole layout procs) parts op All };
 
     /// The cells that an operation needs are in the row.
-    ghost reaches: { (layout : Self) (procs proc : ℕ) (op : Op)
+    ghost reaches: { (layout : Self) (procs proc : ℕ) (op : Self.Op)
         → tag_of layout ≤ 2 → proc < procs → IsTrue ((Self.object layout).takes op)
         → IsWithin (cells_of (tag_of layout) procs) ((ways layout).reach procs op proc) };
 

@@ -1,5 +1,5 @@
 //! Names of objects and workers, and keys of directories, kept in place and not on the heap.
-ghost use Rattle.std.specs.Prelude.{◌≡◌, ◌↔◌, IsTrue, IsSome, IfSome, Some, nat_eq, refl};
+ghost use Rattle.std.specs.Prelude.{◌≡◌, ◌↔◌, ◌≤◌, length, IsTrue, IsSome, IfSome, Some, nat_eq, refl};
 ghost use Rattle.std.specs.List.{list_all};
 ghost use Rattle.std.specs.Ordering.{nat_cmp};
 ghost use Rattle.std.specs.Cmp.{partial_equiv_from_equiv};
@@ -7,6 +7,7 @@ ghost use Rattle.std.specs.Cmp.Lexicographic.{pointwise, slice_cmp, nat_list_eq_
 ghost use Rattle.std.specs.Cmp.Rules.{hashing};
 ghost use Rattle.std.specs.Hash as fed;
 ghost use Rattle.std.proofs.Common.{rules};
+ghost use Rattle.k42_limits.specs.declared.TheConstants.{NAME_BYTES};
 ghost use Rattle.k42_kinds.specs.Words.{is_name, continues_name};
 
 use k42_limits::NAME_BYTES;
@@ -51,12 +52,28 @@ impl Name {
         if !spells_name(bytes) {
             return None;
         }
+        Some(Name::again(bytes))
+    }
+
+    /// The name that had these bytes.
+    pub(crate) fn again(bytes: &[u8]) -> Name
+        requires { length bytes.now ≤ NAME_BYTES }
+        ensures { result ≡ bytes.now }
+    {
         let mut cells = [0; NAME_BYTES];
         cells[..bytes.len()].copy_from_slice(bytes);
-        Some(Name {
+        Name {
             bytes: cells,
             len: bytes.len() as u8,
-        })
+        }
+    }
+
+    /// How many bytes it has.
+    pub(crate) fn len(&self) -> u8
+        ensures len { result ≡ length self.now }
+        ensures few { result ≤ NAME_BYTES }
+    {
+        self.len
     }
 
     /// Its bytes.

@@ -21,6 +21,10 @@ pub struct Plain {
 impl Kind for Plain {
     type State = AnyState;
 
+    type Op = Op;
+
+    type Reply = Reply;
+
     ghost object = { λ plain. plain_object plain.kind };
 
     fn empty(&self, alloc: Global) -> AnyState {

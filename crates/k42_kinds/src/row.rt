@@ -6,7 +6,6 @@ ghost use Rattle.k42_kinds.specs.Steps.{Steps};
 
 use crate::entry::Reach;
 use crate::layout::Layout;
-use crate::operation::{Op, Reply};
 use k42_memory::Memory;
 use std::alloc::Global;
 
@@ -32,10 +31,10 @@ pub fn step_row<L: Layout>(
     layout: &L,
     alloc: Global,
     parts: &mut Vec<L::Part>,
-    op: &Op,
+    op: &L::Op,
     proc: u32,
     procs: u32,
-) -> Result<Reply, Memory>
+) -> Result<L::Reply, Memory>
     requires known { (L.tag_of layout.now ≤ 2) × (proc < procs) × (procs ≤ PROCESSORS) }
     requires takes { IsTrue ((L.object layout.now).takes op.now) }
     requires row { L.whole layout.now procs parts.old.items }

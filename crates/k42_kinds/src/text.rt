@@ -1,5 +1,5 @@
 //! The text of a page, kept in place and not on the heap.
-ghost use Rattle.std.specs.Prelude.{◌≡◌, ◌↔◌, IsTrue, IsSome, IfSome, Some, nat_eq, refl};
+ghost use Rattle.std.specs.Prelude.{◌≡◌, ◌↔◌, ◌≤◌, length, IsTrue, IsSome, IfSome, Some, nat_eq, refl};
 ghost use Rattle.std.specs.List.{list_all};
 ghost use Rattle.std.specs.Ordering.{nat_cmp};
 ghost use Rattle.std.specs.Cmp.{partial_equiv_from_equiv};
@@ -7,6 +7,7 @@ ghost use Rattle.std.specs.Cmp.Lexicographic.{pointwise, slice_cmp, nat_list_eq_
 ghost use Rattle.std.specs.Cmp.Rules.{hashing};
 ghost use Rattle.std.specs.Hash as fed;
 ghost use Rattle.std.proofs.Common.{rules};
+ghost use Rattle.k42_limits.specs.declared.TheConstants.{TEXT_BYTES};
 ghost use Rattle.k42_kinds.specs.Words.{is_text, is_visible};
 
 use k42_limits::TEXT_BYTES;
@@ -50,12 +51,28 @@ impl Text {
         if !spells_text(bytes) {
             return None;
         }
+        Some(Text::again(bytes))
+    }
+
+    /// The text that had these bytes.
+    pub(crate) fn again(bytes: &[u8]) -> Text
+        requires { length bytes.now ≤ TEXT_BYTES }
+        ensures { result ≡ bytes.now }
+    {
         let mut cells = [0; TEXT_BYTES];
         cells[..bytes.len()].copy_from_slice(bytes);
-        Some(Text {
+        Text {
             bytes: cells,
             len: bytes.len() as u8,
-        })
+        }
+    }
+
+    /// How many bytes it has.
+    pub(crate) fn len(&self) -> u8
+        ensures len { result ≡ length self.now }
+        ensures few { result ≤ TEXT_BYTES }
+    {
+        self.len
     }
 
     /// Its bytes.

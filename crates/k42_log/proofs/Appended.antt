@@ -3,97 +3,90 @@ use Rattle.std.proofs.Common.{◌≡◌, ◌∙◌, ℕ, suc, ◌+◌, ◌<◌, 
 use Rattle.std.proofs.lemmas.List.Sums.{sum_by-cons}
 use Rattle.k42_limits.specs.declared.TheConstants.{OBJECTS}
 use Rattle.k42_kinds.specs.declared.entry.Entry.{Entry}
-use Rattle.k42_kinds.specs.Histories.{is_call}
+use Rattle.k42_kinds.specs.Packing.{Packing}
 use Rattle.k42_log.specs.declared.head.Head.{Head}
-use Rattle.k42_log.specs.Names.{is_reply}
-use Rattle.k42_log.specs.Details.{Details, HasSoMany, act_counts, act_details, answer_counts, answer_details, behind, joined, no_details}
-use Rattle.k42_log.specs.Heads.{answer_back, head_of}
+use Rattle.k42_log.specs.Details.{Details, HasSoMany, behind, front, joined, no_details}
+use Rattle.k42_log.specs.Heads.{act_back, act_details, act_size, answer_back, answer_details, answer_size, head_of}
 use Rattle.k42_log.specs.Entries.{AreWhole, Owner, behind_act, behind_entry, entries_back, entry_back}
-use Rattle.k42_log.proofs.Joining.{act_back-joined, answer_back-joined, behind-joined}
-use Rattle.k42_log.proofs.BackAgain.{ActHasPage, entry_again}
+use Rattle.k42_log.proofs.Joining.{behind-joined, front-joined}
+use Rattle.k42_log.proofs.BackAgain.{IsPackedEntry, entry_again}
 
-pub length-entries_back : (owner : Owner) (first : ℕ) (heads : List Head) (details : Details)
-    → length (entries_back owner first heads details) ≡ length heads
-length-entries_back owner first [] details = refl
-length-entries_back owner first (head ∷ heads) details =
-    ap (λ n. suc n) (length-entries_back owner (first + 1) heads (behind_entry head details))
-
--- the details of the first entry are there, and those of the others behind them
-
-act_has : (head : Head) (heads : List Head) (details : Details) → AreWhole (head ∷ heads) details
-    → HasSoMany (act_counts head.act) details
-act_has head heads details whole = record {
-  names = omega (arith, whole.names, sum_by-cons {X = Head});
-  texts = omega (arith, whole.texts, sum_by-cons {X = Head});
-  numbers = omega (arith, whole.numbers, sum_by-cons {X = Head});
-}
-
-answer_has : (head : Head) (heads : List Head) (details : Details) → AreWhole (head ∷ heads) details
-    → HasSoMany (answer_counts head.answer) (behind_act head details)
-answer_has head heads details whole = record {
-  names = omega (arith, whole.names, sum_by-cons {X = Head}, length-drop {A = List ℕ});
-  texts = omega (arith, whole.texts, sum_by-cons {X = Head}, length-drop {A = List ℕ});
-  numbers = omega (arith, whole.numbers, sum_by-cons {X = Head}, length-drop {A = ℕ});
-}
-
-rest_whole : (head : Head) (heads : List Head) (details : Details) → AreWhole (head ∷ heads) details
-    → AreWhole heads (behind_entry head details)
-rest_whole head heads details whole = record {
-  names = omega (arith, whole.names, sum_by-cons {X = Head}, length-drop {A = List ℕ});
-  texts = omega (arith, whole.texts, sum_by-cons {X = Head}, length-drop {A = List ℕ});
-  numbers = omega (arith, whole.numbers, sum_by-cons {X = Head}, length-drop {A = ℕ});
-}
-
-entry_back-joined : (owner : Owner) (index : ℕ) (head : Head) (heads : List Head) (details more : Details)
-    → AreWhole (head ∷ heads) details
-    → entry_back owner index head (joined details more) ≡ entry_back owner index head details
-entry_back-joined owner index head heads details more whole =
-    let here = act_has head heads details whole in
-    let told =
-    ap (answer_back head.answer head.small) (behind-joined (act_counts head.act) details more here)
-    ∙ answer_back-joined head.answer head.small (behind_act head details) more (answer_has head heads details whole) in
-    λ i. record (entry_back owner index head details) { act = act_back-joined head.act head.small details more here i; answer = told i }
-
-behind_entry-joined :
-    (head : Head) (heads : List Head) (details more : Details) → AreWhole (head ∷ heads) details
-    → behind_entry head (joined details more) ≡ joined (behind_entry head details) more
-behind_entry-joined head heads details more whole =
-    ap (behind (answer_counts head.answer)) (behind-joined (act_counts head.act) details more (act_has head heads details whole))
-    ∙ behind-joined (answer_counts head.answer) (behind_act head details) more (answer_has head heads details whole)
+-- the entry is one of the owner, and can be kept
+pub record IsKeepable {O R : Type 0} (ops : Packing O) (replies : Packing R) (owner : Owner) (entry : Entry O R) : Type 0 where
+  pub caller : entry.caller ≡ owner.caller
+  pub proc : entry.proc ≡ owner.proc
+  pub few : entry.object < OBJECTS
+  pub packed : IsPackedEntry ops replies entry
 
 -- without heads there are no details
-none_whole : (details : Details) → AreWhole [] details → details ≡ no_details
-none_whole details whole i = record {
-  names = nothing details.names whole.names i;
-  texts = nothing details.texts whole.texts i;
-  numbers = nothing details.numbers whole.numbers i;
-} where
+none_whole : {O R : Type 0} (ops : Packing O) (replies : Packing R) (details : Details) → AreWhole ops replies [] details → details ≡ no_details
+none_whole ops replies details whole i = record { words = nothing details.words whole.words i; bytes = nothing details.bytes whole.bytes i } where
   nothing : {A : Type 0} (list : List A) → length list ≡ 0 → list ≡ []
   nothing [] none = refl
   nothing (x ∷ xs) none = cc
 
--- the entry is one of the owner, and can be kept
-pub record IsKeepable (owner : Owner) (entry : Entry) : Type 0 where
-  pub caller : entry.caller ≡ owner.caller
-  pub proc : entry.proc ≡ owner.proc
-  pub few : entry.object < OBJECTS
-  pub page : ActHasPage entry.act
-  pub pair : is_call entry.act ≡ is_reply entry.answer
+module _ {O R : Type 0} (ops : Packing O) (replies : Packing R) where
+  abbrev pub entry_details : Entry O R → Details
+  entry_details entry = joined (act_details ops entry.act) (answer_details replies entry.answer)
 
-abbrev pub entry_details : Entry → Details
-entry_details entry = joined (act_details entry.act) (answer_details entry.answer)
+  pub length-entries_back : (owner : Owner) (first : ℕ) (heads : List Head) (details : Details)
+      → length (entries_back ops replies owner first heads details) ≡ length heads
+  length-entries_back owner first [] details = refl
+  length-entries_back owner first (head ∷ heads) details =
+      ap (λ n. suc n) (length-entries_back owner (first + 1) heads (behind_entry ops replies head details))
 
-pub entries_back-push : (owner : Owner) (first : ℕ) (heads : List Head) (details : Details) (entry : Entry)
-    → AreWhole heads details → IsKeepable owner entry → entry.index ≡ first + length heads
-    → entries_back owner first (heads ++ head_of entry ∷ []) (joined details (entry_details entry)) ≡ entries_back owner first heads details ++ entry ∷ []
-entries_back-push owner first [] details entry whole keeps at =
-    let here : first ≡ entry.index = omega arith in
-    ap (λ d. entries_back owner first (head_of entry ∷ []) (joined d (entry_details entry))) (none_whole details whole)
-    ∙ ap (λ n. entry_back owner n (head_of entry) (entry_details entry) ∷ []) here
-    ∙ ap (λ e. e ∷ []) (entry_again owner entry keeps.caller keeps.proc keeps.few keeps.page keeps.pair)
-entries_back-push owner first (head ∷ heads) details entry whole keeps at =
-    let more = entry_details entry in
-    ap (λ e. e ∷ entries_back owner (first + 1) (heads ++ head_of entry ∷ []) (behind_entry head (joined details more))) (entry_back-joined owner first head heads details more whole)
-    ∙ ap (λ d. entry_back owner first head details ∷ entries_back owner (first + 1) (heads ++ head_of entry ∷ []) d) (behind_entry-joined head heads details more whole)
-    ∙ ap (λ es. entry_back owner first head details ∷ es)
-    (entries_back-push owner (first + 1) heads (behind_entry head details) entry (rest_whole head heads details whole) keeps (omega arith))
+  -- the details of the first entry are there, and those of the others behind them
+
+  pub act_has : (head : Head) (heads : List Head) (details : Details) → AreWhole ops replies (head ∷ heads) details
+      → HasSoMany (act_size ops head) details
+  act_has head heads details whole = record {
+    words = omega (arith, whole.words, sum_by-cons {X = Head});
+    bytes = omega (arith, whole.bytes, sum_by-cons {X = Head});
+  }
+
+  pub answer_has : (head : Head) (heads : List Head) (details : Details) → AreWhole ops replies (head ∷ heads) details
+      → HasSoMany (answer_size replies head) (behind_act ops head details)
+  answer_has head heads details whole = record {
+    words = omega (arith, whole.words, sum_by-cons {X = Head}, length-drop {A = ℕ});
+    bytes = omega (arith, whole.bytes, sum_by-cons {X = Head}, length-drop {A = ℕ});
+  }
+
+  pub rest_whole : (head : Head) (heads : List Head) (details : Details) → AreWhole ops replies (head ∷ heads) details
+      → AreWhole ops replies heads (behind_entry ops replies head details)
+  rest_whole head heads details whole = record {
+    words = omega (arith, whole.words, sum_by-cons {X = Head}, length-drop {A = ℕ});
+    bytes = omega (arith, whole.bytes, sum_by-cons {X = Head}, length-drop {A = ℕ});
+  }
+
+  entry_back-joined : (owner : Owner) (index : ℕ) (head : Head) (heads : List Head) (details more : Details)
+      → AreWhole ops replies (head ∷ heads) details
+      → entry_back ops replies owner index head (joined details more) ≡ entry_back ops replies owner index head details
+  entry_back-joined owner index head heads details more whole =
+      let here = act_has head heads details whole in
+      let asked = ap (act_back ops head) (front-joined (act_size ops head) details more here) in
+      let told =
+      ap (λ (d : Details). answer_back replies head (front (answer_size replies head) d)) (behind-joined (act_size ops head) details more here)
+      ∙ ap (answer_back replies head) (front-joined (answer_size replies head) (behind_act ops head details) more (answer_has head heads details whole)) in
+      λ i. record (entry_back ops replies owner index head details) { act = asked i; answer = told i }
+
+  behind_entry-joined :
+      (head : Head) (heads : List Head) (details more : Details) → AreWhole ops replies (head ∷ heads) details
+      → behind_entry ops replies head (joined details more) ≡ joined (behind_entry ops replies head details) more
+  behind_entry-joined head heads details more whole =
+      ap (behind (answer_size replies head)) (behind-joined (act_size ops head) details more (act_has head heads details whole))
+      ∙ behind-joined (answer_size replies head) (behind_act ops head details) more (answer_has head heads details whole)
+
+  pub entries_back-push : (owner : Owner) (first : ℕ) (heads : List Head) (details : Details) (entry : Entry O R)
+      → AreWhole ops replies heads details → IsKeepable ops replies owner entry → entry.index ≡ first + length heads
+      → entries_back ops replies owner first (heads ++ head_of ops replies entry ∷ []) (joined details (entry_details entry)) ≡ entries_back ops replies owner first heads details ++ entry ∷ []
+  entries_back-push owner first [] details entry whole keeps at =
+      let here : first ≡ entry.index = omega arith in
+      ap (λ d. entries_back ops replies owner first (head_of ops replies entry ∷ []) (joined d (entry_details entry))) (none_whole ops replies details whole)
+      ∙ ap (λ n. entry_back ops replies owner n (head_of ops replies entry) (entry_details entry) ∷ []) here
+      ∙ ap (λ e. e ∷ []) (entry_again ops replies owner entry keeps.caller keeps.proc keeps.few keeps.packed)
+  entries_back-push owner first (head ∷ heads) details entry whole keeps at =
+      let more = entry_details entry in
+      ap (λ e. e ∷ entries_back ops replies owner (first + 1) (heads ++ head_of ops replies entry ∷ []) (behind_entry ops replies head (joined details more))) (entry_back-joined owner first head heads details more whole)
+      ∙ ap (λ d. entry_back ops replies owner first head details ∷ entries_back ops replies owner (first + 1) (heads ++ head_of ops replies entry ∷ []) d) (behind_entry-joined head heads details more whole)
+      ∙ ap (λ es. entry_back ops replies owner first head details ∷ es)
+      (entries_back-push owner (first + 1) heads (behind_entry ops replies head details) entry (rest_whole head heads details whole) keeps (omega arith))

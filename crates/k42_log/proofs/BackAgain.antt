@@ -1,99 +1,142 @@
 -- An entry comes back from its own head and details.
-use Rattle.std.proofs.Common.{◌≡◌, ◌∙◌, ℕ, ◌+◌, ◌*◌, ◌%◌, ◌<◌, Option, Some, None, refl, ap, sym, arith}
+use Rattle.std.proofs.Common.{◌≡◌, ◌∙◌, ℕ, ◌+◌, ◌*◌, ◌%◌, ◌<◌, Bool, true, false, if◌then◌else◌, Option, Some, None, refl, ap, sym, subst, arith}
+use Rattle.std.proofs.lemmas.Bool.Decides.{nat_tests}
 use Rattle.k42_limits.specs.declared.TheConstants.{OBJECTS}
-use Rattle.k42_kinds.specs.declared.operation.LayoutName.TheVariants as layouts
-use Rattle.k42_kinds.specs.declared.operation.Op.{Op}
-use Rattle.k42_kinds.specs.declared.operation.Op.TheVariants as ops
-use Rattle.k42_kinds.specs.declared.operation.Reply.{Reply}
-use Rattle.k42_kinds.specs.declared.operation.Reply.TheVariants as replies
+use Rattle.k42_kinds.specs.declared.operation.LayoutName.TheVariants.{Shared, Spread}
+use Rattle.k42_kinds.specs.declared.packed.Size.{Size}
+use Rattle.k42_kinds.specs.declared.packed.TheConstants.{REPLY_TAGS}
 use Rattle.k42_kinds.specs.declared.entry.Act.{Act}
 use Rattle.k42_kinds.specs.declared.entry.Act.TheVariants.{Call, Swap}
+use Rattle.k42_kinds.specs.declared.entry.To.{To}
 use Rattle.k42_kinds.specs.declared.entry.To.TheVariants as tos
 use Rattle.k42_kinds.specs.declared.entry.Answer.{Answer}
 use Rattle.k42_kinds.specs.declared.entry.Answer.TheVariants.{Replied, Swapped, Busy, Spent, Gone, Abandoned}
 use Rattle.k42_kinds.specs.declared.entry.Entry.{Entry}
 use Rattle.k42_kinds.specs.Histories.{is_call}
-use Rattle.k42_log.specs.Names.{act_name, answer_name, is_reply, op_name, reply_name}
-use Rattle.k42_log.specs.Details.{Details, act_counts, act_details, answer_details, behind, joined}
-use Rattle.k42_log.specs.Heads.{HasPage, act_back, answer_back, cell_at, generation_at, generation_or_0, object_at, op_small, place_of, small_of, head_of}
+use Rattle.k42_kinds.specs.Packing.{Packing, IsPacked, IsReplyLabel}
+use Rattle.k42_log.specs.declared.head.Head.{Head}
+use Rattle.k42_log.specs.Names.{end_name, end_named, is_reply, names_reply, to_name, to_named}
+use Rattle.k42_log.specs.Details.{Details, details_of, front, joined, no_details, no_size}
+use Rattle.k42_log.specs.Heads.{act_back, act_details, act_label, act_size, answer_back, answer_details, answer_name, answer_size, answer_small, cell_at, generation_at, generation_or_0, head_of, head_with, labelled, object_at, place_of}
 use Rattle.k42_log.specs.Entries.{Owner, entry_back}
+use Rattle.k42_log.proofs.Joining.{HasJust, behind_at, front_at, joined-none}
 
--- the page of an act, which is none where it asks for a swap
-abbrev pub ActHasPage : Act → Type 0
-ActHasPage (Call op) = HasPage op
-ActHasPage (Swap to) = Unit {0}
+-- what is packed of an act and of an answer
 
-page_again : (page : ℕ) → page < 65_536 → page % 65_536 ≡ page
-page_again page small = omega arith
+abbrev pub IsPackedAct : {O : Type 0} → Packing O → Act O → Type 0
+IsPackedAct ops (Call op) = IsPacked ops op
+IsPackedAct ops (Swap to) = Unit {0}
 
-pub op_again : (op : Op) (more : Details) → HasPage op
-    → act_back (op_name op) (op_small op) (joined (act_details (Call op)) more) ≡ Call op
-op_again (ops.Write page text) more small = λ i. Call (ops.Write (page_again page small i) text)
-op_again (ops.Read page) more small = λ i. Call (ops.Read (page_again page small i))
-op_again (ops.Add amount) more small = refl
-op_again ops.Get more small = refl
-op_again ops.Drain more small = refl
-op_again (ops.Bind key number) more small = refl
-op_again (ops.Find key) more small = refl
-op_again (ops.Unbind key) more small = refl
-op_again ops.Size more small = refl
-op_again ops.Dirty more small = refl
-op_again ops.Clean more small = refl
-op_again ops.Seen more small = refl
+pub record IsReplyPacked {R : Type 0} (replies : Packing R) (reply : R) : Type 0 where
+  pub packed : IsPacked replies reply
+  pub low : IsReplyLabel (replies.label reply)
 
-pub act_again : (act : Act) (answer : Answer) (more : Details) → ActHasPage act
-    → act_back (act_name act) (small_of act answer) (joined (act_details act) more) ≡ act
-act_again (Call op) answer more small = op_again op more small
-act_again (Swap (tos.Layout layouts.Shared)) answer more small = refl
-act_again (Swap (tos.Layout layouts.Spread)) answer more small = refl
-act_again (Swap tos.Dead) answer more small = refl
-act_again (Swap tos.Watch) answer more small = refl
-act_again (Swap tos.Unwatch) answer more small = refl
+abbrev pub IsPackedAnswer : {R : Type 0} → Packing R → Answer R → Type 0
+IsPackedAnswer replies (Replied reply) = IsReplyPacked replies reply
+IsPackedAnswer replies _ = Unit {0}
 
-reply_again : (reply : Reply) (small : ℕ)
-    → answer_back (reply_name reply) small (answer_details (Replied reply)) ≡ Replied reply
-reply_again replies.Done small = refl
-reply_again replies.Taken small = refl
-reply_again replies.None small = refl
-reply_again (replies.Number number) small = refl
-reply_again (replies.Text text) small = refl
-reply_again replies.Zero small = refl
-reply_again replies.Gone small = refl
+lower : (tag : ℕ) → tag < REPLY_TAGS → names_reply tag ≡ true
+lower tag less = grind (arith, nat_tests, less)
 
-pub answer_again : (act : Act) (answer : Answer) → is_call act ≡ is_reply answer
-    → answer_back (answer_name answer) (small_of act answer) (answer_details answer) ≡ answer
-answer_again act (Replied reply) pair = reply_again reply (small_of act (Replied reply))
-answer_again (Swap to) (Swapped number) pair = refl
-answer_again (Swap to) (Busy number) pair = refl
-answer_again (Swap to) Spent pair = refl
-answer_again (Swap to) Gone pair = refl
-answer_again (Swap to) (Abandoned number) pair = refl
-answer_again (Call op) (Swapped number) pair = cc
-answer_again (Call op) (Busy number) pair = cc
-answer_again (Call op) Spent pair = refl
-answer_again (Call op) Gone pair = refl
-answer_again (Call op) (Abandoned number) pair = cc
+-- a call and a swap, told apart by their answers
 
--- behind the details of an act stand those of its answer
-pub behind-act :
-    (act : Act) (more : Details) → behind (act_counts (act_name act)) (joined (act_details act) more) ≡ more
-behind-act (Call (ops.Add amount)) more = refl
-behind-act (Call ops.Get) more = refl
-behind-act (Call ops.Drain) more = refl
-behind-act (Call (ops.Bind key number)) more = refl
-behind-act (Call (ops.Find key)) more = refl
-behind-act (Call (ops.Unbind key)) more = refl
-behind-act (Call ops.Size) more = refl
-behind-act (Call (ops.Write page text)) more = refl
-behind-act (Call (ops.Read page)) more = refl
-behind-act (Call ops.Dirty) more = refl
-behind-act (Call ops.Clean) more = refl
-behind-act (Call ops.Seen) more = refl
-behind-act (Swap (tos.Layout layouts.Shared)) more = refl
-behind-act (Swap (tos.Layout layouts.Spread)) more = refl
-behind-act (Swap tos.Dead) more = refl
-behind-act (Swap tos.Watch) more = refl
-behind-act (Swap tos.Unwatch) more = refl
+pub reply_named : {R : Type 0} (replies : Packing R) (reply : R) → IsReplyPacked replies reply
+    → names_reply (answer_name replies (Replied reply)) ≡ true
+reply_named replies reply packed = lower (replies.label reply).tag packed.low.tag
+
+end_unnamed : {R : Type 0} (replies : Packing R) (answer : Answer R) → is_reply answer ≡ false
+    → names_reply (answer_name replies answer) ≡ false
+end_unnamed replies (Replied reply) is = cc is
+end_unnamed replies (Swapped number) is = refl
+end_unnamed replies (Busy number) is = refl
+end_unnamed replies Spent is = refl
+end_unnamed replies Gone is = refl
+end_unnamed replies (Abandoned number) is = refl
+
+to_again : (to : To) → to_named (to_name to) ≡ to
+to_again (tos.Layout Shared) = refl
+to_again (tos.Layout Spread) = refl
+to_again tos.Dead = refl
+to_again tos.Watch = refl
+to_again tos.Unwatch = refl
+
+end_again : {R : Type 0} (answer : Answer R) → is_reply answer ≡ false
+    → end_named (end_name answer) (answer_small answer) ≡ answer
+end_again (Replied reply) is = cc is
+end_again (Swapped number) is = refl
+end_again (Busy number) is = refl
+end_again Spent is = refl
+end_again Gone is = refl
+end_again (Abandoned number) is = refl
+
+module _ {O R : Type 0} (ops : Packing O) (replies : Packing R) (entry : Entry O R) where
+  abbrev call_head : O → R → Head
+  call_head op reply = head_with ops replies entry (Call op) (Replied reply)
+
+  -- the size that the head tells is that of the details
+
+  pub act_sized : (act : Act O) (answer : Answer R) → IsPackedAct ops act → IsPackedAnswer replies answer → is_call act ≡ is_reply answer
+      → HasJust (act_size ops (head_with ops replies entry act answer)) (act_details ops act)
+  act_sized (Call op) (Replied reply) packed told pair =
+      let is : act_size ops (call_head op reply) ≡ ops.size (ops.label op) = ap (λ (b : Bool). if b then ops.size (ops.label op) else no_size) (reply_named replies reply told) in
+      subst (λ (size : Size). HasJust size (details_of ops op)) (sym is) (record { words = packed.sized.words; bytes = packed.sized.bytes })
+  act_sized (Call op) (Swapped number) packed told pair = absurd (cc pair)
+  act_sized (Call op) (Busy number) packed told pair = absurd (cc pair)
+  act_sized (Call op) Spent packed told pair = absurd (cc pair)
+  act_sized (Call op) Gone packed told pair = absurd (cc pair)
+  act_sized (Call op) (Abandoned number) packed told pair = absurd (cc pair)
+  act_sized (Swap to) answer packed told pair =
+      let is : act_size ops (head_with ops replies entry (Swap to) answer) ≡ no_size = ap (λ (b : Bool). if b then ops.size (labelled (to_name to) (answer_small answer)) else no_size) (end_unnamed replies answer (sym pair)) in
+      subst (λ (size : Size). HasJust size no_details) (sym is) (record { words = refl; bytes = refl })
+
+  pub answer_sized : (act : Act O) (answer : Answer R) → IsPackedAnswer replies answer
+      → HasJust (answer_size replies (head_with ops replies entry act answer)) (answer_details replies answer)
+  answer_sized act (Replied reply) told =
+      let size : answer_size replies (head_with ops replies entry act (Replied reply)) ≡ replies.size (labelled (replies.label reply).tag 0) = ap (λ (b : Bool). if b then replies.size (labelled (replies.label reply).tag 0) else no_size) (reply_named replies reply told) in
+      let is = size ∙ ap (λ n. replies.size (labelled (replies.label reply).tag n)) (sym told.low.small) in
+      subst (λ (size : Size). HasJust size (details_of replies reply)) (sym is) (record { words = told.packed.sized.words; bytes = told.packed.sized.bytes })
+  answer_sized act (Swapped number) told = record { words = refl; bytes = refl }
+  answer_sized act (Busy number) told = record { words = refl; bytes = refl }
+  answer_sized act Spent told = record { words = refl; bytes = refl }
+  answer_sized act Gone told = record { words = refl; bytes = refl }
+  answer_sized act (Abandoned number) told = record { words = refl; bytes = refl }
+
+  act_again : (act : Act O) (answer : Answer R) (more : Details) → IsPackedAct ops act → IsPackedAnswer replies answer → is_call act ≡ is_reply answer
+      → act_back ops (head_with ops replies entry act answer) (front (act_size ops (head_with ops replies entry act answer)) (joined (act_details ops act) more)) ≡ act
+  act_again (Call op) (Replied reply) more packed told pair =
+      ap (act_back ops (call_head op reply)) (front_at _ (details_of ops op) more (act_sized (Call op) (Replied reply) packed told pair))
+      ∙ ap (λ (b : Bool). if b then Call (ops.unpack (ops.label op) (ops.words op) (ops.bytes op)) else Swap (to_named (ops.label op).tag)) (reply_named replies reply told)
+      ∙ ap Call packed.again
+  act_again (Call op) (Swapped number) more packed told pair = absurd (cc pair)
+  act_again (Call op) (Busy number) more packed told pair = absurd (cc pair)
+  act_again (Call op) Spent more packed told pair = absurd (cc pair)
+  act_again (Call op) Gone more packed told pair = absurd (cc pair)
+  act_again (Call op) (Abandoned number) more packed told pair = absurd (cc pair)
+  act_again (Swap to) answer more packed told pair =
+      let own = front (act_size ops (head_with ops replies entry (Swap to) answer)) (joined no_details more) in
+      ap (λ (b : Bool). if b then Call (ops.unpack (labelled (to_name to) (answer_small answer)) own.words own.bytes) else Swap (to_named (to_name to))) (end_unnamed replies answer (sym pair))
+      ∙ ap Swap (to_again to)
+
+  answer_again : (act : Act O) (answer : Answer R) → IsPackedAnswer replies answer → is_call act ≡ is_reply answer
+      → answer_back replies (head_with ops replies entry act answer) (front (answer_size replies (head_with ops replies entry act answer)) (answer_details replies answer)) ≡ answer
+  answer_again act (Replied reply) told pair =
+      let h = head_with ops replies entry act (Replied reply) in
+      let all : front (answer_size replies h) (details_of replies reply) ≡ details_of replies reply =
+      sym (ap (front (answer_size replies h)) (joined-none (details_of replies reply))) ∙ front_at (answer_size replies h) (details_of replies reply) no_details (answer_sized act (Replied reply) told) in
+      ap (answer_back replies h) all
+      ∙ ap (λ (b : Bool). if b then Replied (replies.unpack (labelled (replies.label reply).tag 0) (replies.words reply) (replies.bytes reply)) else end_named (replies.label reply).tag h.small) (reply_named replies reply told)
+      ∙ ap (λ n. Replied (replies.unpack (labelled (replies.label reply).tag n) (replies.words reply) (replies.bytes reply))) (sym told.low.small)
+      ∙ ap Replied told.packed.again
+  answer_again (Call op) (Swapped number) told pair = absurd (cc pair)
+  answer_again (Call op) (Busy number) told pair = absurd (cc pair)
+  answer_again (Call op) Spent told pair = absurd (cc pair)
+  answer_again (Call op) Gone told pair = absurd (cc pair)
+  answer_again (Call op) (Abandoned number) told pair = absurd (cc pair)
+  answer_again (Swap to) (Swapped number) told pair = refl
+  answer_again (Swap to) (Busy number) told pair = refl
+  answer_again (Swap to) Spent told pair = refl
+  answer_again (Swap to) Gone told pair = refl
+  answer_again (Swap to) (Abandoned number) told pair = refl
 
 cell_again : (cell object : ℕ) (generation : Option ℕ) → object < OBJECTS
     → cell_at (place_of cell object generation) ≡ cell
@@ -116,18 +159,28 @@ generation_again : (cell object : ℕ) (generation : Option ℕ)
 generation_again cell object None = rw is_even refl
 generation_again cell object (Some generation) = rw is_odd refl
 
-pub entry_again : (owner : Owner) (entry : Entry) → entry.caller ≡ owner.caller → entry.proc ≡ owner.proc
-    → entry.object < OBJECTS → ActHasPage entry.act → is_call entry.act ≡ is_reply entry.answer
-    → entry_back owner entry.index (head_of entry) (joined (act_details entry.act) (answer_details entry.answer)) ≡ entry
-entry_again owner entry caller proc few page pair i = record {
-  stamp = entry.stamp;
-  index = entry.index;
-  caller = sym caller i;
-  object = object_again entry.cell entry.object entry.generation few i;
-  incarnation = entry.incarnation;
-  cell = cell_again entry.cell entry.object entry.generation few i;
-  act = act_again entry.act entry.answer (answer_details entry.answer) page i;
-  answer = (ap (answer_back (answer_name entry.answer) (small_of entry.act entry.answer)) (behind-act entry.act (answer_details entry.answer)) ∙ answer_again entry.act entry.answer pair) i;
-  proc = sym proc i;
-  generation = generation_again entry.cell entry.object entry.generation i;
-}
+-- an entry whose operation and reply are packed
+pub record IsPackedEntry {O R : Type 0} (ops : Packing O) (replies : Packing R) (entry : Entry O R) : Type 0 where
+  pub act : IsPackedAct ops entry.act
+  pub answer : IsPackedAnswer replies entry.answer
+  pub pair : is_call entry.act ≡ is_reply entry.answer
+
+pub entry_again : {O R : Type 0} (ops : Packing O) (replies : Packing R) (owner : Owner) (entry : Entry O R) → entry.caller ≡ owner.caller → entry.proc ≡ owner.proc
+    → entry.object < OBJECTS → IsPackedEntry ops replies entry
+    → entry_back ops replies owner entry.index (head_of ops replies entry) (joined (act_details ops entry.act) (answer_details replies entry.answer)) ≡ entry
+entry_again ops replies owner entry caller proc few packed i =
+    let h = head_of ops replies entry in
+    let told = answer_details replies entry.answer in
+    let behind_is = behind_at (act_size ops h) (act_details ops entry.act) told (act_sized ops replies entry entry.act entry.answer packed.act packed.answer packed.pair) in
+    record {
+      stamp = entry.stamp;
+      index = entry.index;
+      caller = sym caller i;
+      object = object_again entry.cell entry.object entry.generation few i;
+      incarnation = entry.incarnation;
+      cell = cell_again entry.cell entry.object entry.generation few i;
+      act = act_again ops replies entry entry.act entry.answer told packed.act packed.answer packed.pair i;
+      answer = (ap (λ (d : Details). answer_back replies h (front (answer_size replies h) d)) behind_is ∙ answer_again ops replies entry entry.act entry.answer packed.answer packed.pair) i;
+      proc = sym proc i;
+      generation = generation_again entry.cell entry.object entry.generation i;
+    }

@@ -1,14 +1,15 @@
 -- Heads and details, and the entries for which they stand: accepted and refused.
 use Rattle.std.proofs.Common.{◌≡◌, ℕ, [], ◌∷◌, Option, Some, None, refl, arith}
+use Rattle.k42_kinds.specs.declared.operation.Op.{Op}
 use Rattle.k42_kinds.specs.declared.operation.Op.TheVariants.{Add, Bind}
+use Rattle.k42_kinds.specs.declared.operation.Reply.{Reply}
 use Rattle.k42_kinds.specs.declared.operation.Reply.TheVariants.{Done, Number}
 use Rattle.k42_kinds.specs.declared.entry.Act.TheVariants.{Call, Swap}
 use Rattle.k42_kinds.specs.declared.entry.To.TheVariants.{Watch}
 use Rattle.k42_kinds.specs.declared.entry.Answer.TheVariants.{Replied, Busy}
 use Rattle.k42_kinds.specs.declared.entry.Entry.{Entry}
+use Rattle.k42_kinds.specs.PackedCalls.{op_packing, reply_packing}
 use Rattle.k42_log.specs.declared.head.Head.{Head}
-use Rattle.k42_log.specs.declared.name.ActName.TheVariants as acts
-use Rattle.k42_log.specs.declared.name.AnswerName.TheVariants as answers
 use Rattle.k42_log.specs.Details.{Details}
 use Rattle.k42_log.specs.Heads.{head_of}
 use Rattle.k42_log.specs.Entries.{AreWhole, Owner, entries_back, entry_back}
@@ -18,7 +19,7 @@ abbrev owner : Owner
 owner = record { caller = 2; proc = 1 }
 
 -- `bind a 9` at cell 17, which is replied 8
-abbrev bind : Entry
+abbrev bind : Entry Op Reply
 bind = record {
   stamp = 5;
   index = 40;
@@ -33,7 +34,7 @@ bind = record {
 }
 
 -- a watch that another's swap refuses, which is number 7
-abbrev watch : Entry
+abbrev watch : Entry Op Reply
 watch = record {
   stamp = 11;
   index = 41;
@@ -52,10 +53,10 @@ bind_head = record {
   stamp = 5;
   incarnation = 4;
   generation = 6;
-  small = 0;
+  small = 1;
   place = 551;
-  act = acts.Bind;
-  answer = answers.Number;
+  act = 3;
+  answer = 3;
 }
 
 abbrev watch_head : Head
@@ -65,35 +66,35 @@ watch_head = record {
   generation = 0;
   small = 7;
   place = 6;
-  act = acts.Watch;
-  answer = answers.Busy;
+  act = 3;
+  answer = 241;
 }
 
 abbrev details : Details
-details = record { names = (97 ∷ []) ∷ []; texts = []; numbers = 9 ∷ 8 ∷ [] }
+details = record { words = 9 ∷ 8 ∷ []; bytes = 97 ∷ [] }
 
-heads_are : head_of bind ∷ head_of watch ∷ [] ≡ bind_head ∷ watch_head ∷ []
+heads_are : head_of op_packing reply_packing bind ∷ head_of op_packing reply_packing watch ∷ [] ≡ bind_head ∷ watch_head ∷ []
 heads_are = refl
 
-whole : AreWhole (bind_head ∷ watch_head ∷ []) details
-whole = record { names = refl; texts = refl; numbers = refl }
+whole : AreWhole op_packing reply_packing (bind_head ∷ watch_head ∷ []) details
+whole = record { words = refl; bytes = refl }
 
-read_back : entries_back owner 40 (bind_head ∷ watch_head ∷ []) details ≡ bind ∷ watch ∷ []
+read_back : entries_back op_packing reply_packing owner 40 (bind_head ∷ watch_head ∷ []) details ≡ bind ∷ watch ∷ []
 read_back = refl
 
--- without the last number, the details are not whole
-not_whole : ¬ AreWhole (bind_head ∷ watch_head ∷ []) (record details { numbers = 9 ∷ [] })
-not_whole short = omega (arith, short.numbers)
+-- without the last word, the details are not whole
+not_whole : ¬ AreWhole op_packing reply_packing (bind_head ∷ watch_head ∷ []) (record details { words = 9 ∷ [] })
+not_whole short = omega (arith, short.words)
 
 -- a place that tells of no generation gives another entry
-no_generation : ¬ (entry_back owner 40 (record bind_head { place = 550 }) details ≡ bind)
+no_generation : ¬ (entry_back op_packing reply_packing owner 40 (record bind_head { place = 550 }) details ≡ bind)
 no_generation same = let other : ◌≡◌ {A = Option ℕ} None (Some 6) = λ i. (same i).generation in cc
 
--- so do numbers in another order
-other_order : ¬ (entry_back owner 40 bind_head (record details { numbers = 8 ∷ 9 ∷ [] }) ≡ bind)
+-- so do words in another order
+other_order : ¬ (entry_back op_packing reply_packing owner 40 bind_head (record details { words = 8 ∷ 9 ∷ [] }) ≡ bind)
 other_order same = let other : Call (Bind (97 ∷ []) 8) ≡ Call (Bind (97 ∷ []) 9) = λ i. (same i).act in cc
 
-abbrev log : LogSeen
+abbrev log : LogSeen Op Reply
 log = record { owner = owner; first = 40; entries = bind ∷ []; room = 1 }
 
 next : IsNextOf log watch

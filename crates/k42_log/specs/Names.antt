@@ -1,64 +1,49 @@
--- What an act and an answer are called, without what they carry, and how many details each has.
-use Rattle.std.specs.Prelude.{Bool, true, false}
-use Rattle.k42_kinds.specs.declared.operation.LayoutName.TheVariants as layouts
-use Rattle.k42_kinds.specs.declared.operation.Op.{Op}
-use Rattle.k42_kinds.specs.declared.operation.Op.TheVariants as ops
-use Rattle.k42_kinds.specs.declared.operation.Reply.{Reply}
-use Rattle.k42_kinds.specs.declared.operation.Reply.TheVariants as replies
-use Rattle.k42_kinds.specs.declared.entry.Act.{Act}
-use Rattle.k42_kinds.specs.declared.entry.Act.TheVariants.{Call, Swap}
+-- How the act and the answer of a swap are named by a number. What an object replied to a call has one of
+-- the lower numbers, and how a swap was answered one from `REPLY_TAGS` on.
+use Rattle.std.specs.Prelude.{ℕ, ◌+◌, ◌==◌, Bool, true, false, if◌then◌else◌, nat_lt}
+use Rattle.k42_kinds.specs.declared.operation.LayoutName.TheVariants.{Shared, Spread}
+use Rattle.k42_kinds.specs.declared.packed.TheConstants.{REPLY_TAGS}
 use Rattle.k42_kinds.specs.declared.entry.To.{To}
 use Rattle.k42_kinds.specs.declared.entry.To.TheVariants as tos
 use Rattle.k42_kinds.specs.declared.entry.Answer.{Answer}
-use Rattle.k42_kinds.specs.declared.entry.Answer.TheVariants as told
-use Rattle.k42_log.specs.declared.name.ActName.{ActName}
-use Rattle.k42_log.specs.declared.name.ActName.TheVariants as acts
-use Rattle.k42_log.specs.declared.name.AnswerName.{AnswerName}
-use Rattle.k42_log.specs.declared.name.AnswerName.TheVariants as answers
+use Rattle.k42_kinds.specs.declared.entry.Answer.TheVariants.{Replied, Swapped, Busy, Spent, Gone, Abandoned}
 
-abbrev pub op_name : Op → ActName
-op_name (ops.Add amount) = acts.Add
-op_name ops.Get = acts.Get
-op_name ops.Drain = acts.Drain
-op_name (ops.Bind key number) = acts.Bind
-op_name (ops.Find key) = acts.Find
-op_name (ops.Unbind key) = acts.Unbind
-op_name ops.Size = acts.Size
-op_name (ops.Write page text) = acts.Write
-op_name (ops.Read page) = acts.Read
-op_name ops.Dirty = acts.Dirty
-op_name ops.Clean = acts.Clean
-op_name ops.Seen = acts.Seen
+abbrev pub to_name : To → ℕ
+to_name (tos.Layout Shared) = 0
+to_name (tos.Layout Spread) = 1
+to_name tos.Dead = 2
+to_name tos.Watch = 3
+to_name tos.Unwatch = 4
 
-abbrev pub to_name : To → ActName
-to_name (tos.Layout layouts.Shared) = acts.Shared
-to_name (tos.Layout layouts.Spread) = acts.Spread
-to_name tos.Dead = acts.Dead
-to_name tos.Watch = acts.Watch
-to_name tos.Unwatch = acts.Unwatch
+abbrev pub to_named : ℕ → To
+to_named name =
+    if name == 0 then tos.Layout Shared
+    else if name == 1 then tos.Layout Spread
+    else if name == 2 then tos.Dead
+    else if name == 3 then tos.Watch
+    else tos.Unwatch
 
-abbrev pub act_name : Act → ActName
-act_name (Call op) = op_name op
-act_name (Swap to) = to_name to
+-- how a swap was answered
+abbrev pub end_name : {R : Type 0} → Answer R → ℕ
+end_name (Swapped number) = REPLY_TAGS
+end_name (Busy number) = REPLY_TAGS + 1
+end_name Spent = REPLY_TAGS + 2
+end_name Gone = REPLY_TAGS + 3
+end_name _ = REPLY_TAGS + 4
 
-abbrev pub reply_name : Reply → AnswerName
-reply_name replies.Done = answers.Done
-reply_name replies.Taken = answers.Taken
-reply_name replies.None = answers.None
-reply_name (replies.Number number) = answers.Number
-reply_name (replies.Text text) = answers.Text
-reply_name replies.Zero = answers.Zero
-reply_name replies.Gone = answers.Gone
+abbrev pub end_named : {R : Type 0} → ℕ → ℕ → Answer R
+end_named name small =
+    if name == REPLY_TAGS then Swapped small
+    else if name == REPLY_TAGS + 1 then Busy small
+    else if name == REPLY_TAGS + 2 then Spent
+    else if name == REPLY_TAGS + 3 then Gone
+    else Abandoned small
 
-abbrev pub answer_name : Answer → AnswerName
-answer_name (told.Replied reply) = reply_name reply
-answer_name (told.Swapped number) = answers.Swapped
-answer_name (told.Busy number) = answers.Busy
-answer_name told.Spent = answers.Spent
-answer_name told.Gone = answers.Dead
-answer_name (told.Abandoned number) = answers.Abandoned
+-- whether the name of an answer is that of a reply
+abbrev pub names_reply : ℕ → Bool
+names_reply name = nat_lt name REPLY_TAGS
 
 -- whether it is what an object replied to a call
-abbrev pub is_reply : Answer → Bool
-is_reply (told.Replied reply) = true
+abbrev pub is_reply : {R : Type 0} → Answer R → Bool
+is_reply (Replied reply) = true
 is_reply _ = false

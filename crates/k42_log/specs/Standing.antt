@@ -2,7 +2,7 @@
 use Rattle.k42_kinds.specs.declared.entry.Entry.{Entry}
 use Rattle.k42_log.specs.declared.unread.Standing.{Standing}
 
-abbrev pub standing_of : Entry → Standing
+abbrev pub standing_of : {O R : Type 0} → Entry O R → Standing
 standing_of entry = record {
   stamp = entry.stamp;
   object = entry.object;

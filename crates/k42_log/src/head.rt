@@ -1,10 +1,9 @@
 //! The head of an entry: three words.
 ghost use Rattle.std.specs.Prelude.{◌≡◌, ◌<◌};
 ghost use Rattle.k42_limits.specs.declared.TheConstants.{OBJECTS};
-ghost use Rattle.k42_log.specs.Heads.{HasPage, answer_small, cell_at, generation_at, generation_or_0, object_at, op_small, place_of};
+ghost use Rattle.k42_log.specs.Heads.{answer_small, cell_at, generation_at, generation_or_0, object_at, place_of};
 
-use crate::name::{ActName, AnswerName};
-use k42_kinds::{Answer, Op};
+use k42_kinds::Answer;
 use k42_limits::OBJECTS;
 
 /// The cells that a log knows are numbered from 0 to below this.
@@ -16,12 +15,14 @@ pub(crate) struct Head {
     pub(crate) incarnation: u32,
     /// 0 where there is none.
     pub(crate) generation: u32,
-    /// The amount that a call adds, the page that it names, or the number of a swap.
+    /// The small number of an operation, or the number of a swap.
     pub(crate) small: u32,
     /// `(cell * OBJECTS + object) * 2`, and 1 more where there is a generation.
     pub(crate) place: u16,
-    pub(crate) act: ActName,
-    pub(crate) answer: AnswerName,
+    /// The tag of an operation, or how the object was to be kept.
+    pub(crate) act: u8,
+    /// The tag of a reply, or from `REPLY_TAGS` on how a swap was answered.
+    pub(crate) answer: u8,
 }
 
 const _: () = prove!(size_of::<Head>() == 24);
@@ -44,18 +45,7 @@ pub(crate) fn generation_or_0(generation: Option<u32>) -> u32
     generation.unwrap_or(0)
 }
 
-pub(crate) fn op_small(op: &Op) -> u32
-    ensures small { result ≡ op_small op.now }
-    ensures page { HasPage op.now }
-{
-    match op {
-        Op::Add(amount) => *amount,
-        Op::Write(page, _) | Op::Read(page) => u32::from(*page),
-        _ => 0,
-    }
-}
-
-pub(crate) fn answer_small(answer: &Answer) -> u32
+pub(crate) fn answer_small<R>(answer: &Answer<R>) -> u32
     ensures { result ≡ answer_small answer.now }
 {
     match answer {

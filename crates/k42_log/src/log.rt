@@ -1,43 +1,57 @@
 //! A log: entries of one caller, and room for more.
 ghost use Rattle.std.specs.Prelude.{◌≡◌, ◌<◌, ◌≤◌, ◌+◌, ◌==◌, [], ◌∷◌, ◌++◌, length, OnOk, OnErr};
 ghost use Rattle.k42_limits.specs.declared.TheConstants.{OBJECTS, PASS_ENTRIES};
+ghost use Rattle.k42_log.specs.LogFields.{over_most};
 ghost use Rattle.k42_log.specs.Logs.{IsNextOf, call_entry, incarnation_or_0, last_entry, next_index, stamp_or_0};
 
-use crate::head::{CELLS, Head, answer_small, generation_or_0, op_small, place_of};
-use crate::name::{answer_name, op_name, reply_name, to_name};
+use crate::head::{CELLS, Head, answer_small, generation_or_0, place_of};
+use crate::name::{end_name, to_name};
 use crate::reading::Reading;
 use crate::stored::Stored;
 use crate::unread::Unread;
-use k42_kinds::{Act, Answer, Entry, Op, Reply};
+use k42_kinds::{Act, Answer, Entry, Packed, PackedReply, Size};
 use k42_memory::Memory;
 use std::alloc::Global;
-use std::marker::Model;
+use std::marker::{Model, PhantomData};
 
 /// The entries of one caller, the first of them first. Their indexes count from that of the first.
 #[derive(Debug, Drop)]
-pub struct Log {
+pub struct Log<O: Packed, R: PackedReply> {
     heads: Vec<Head>,
     stored: Stored,
     first: u64,
     caller: u32,
     proc: u32,
+    of: PhantomData<(O, R)>,
 }
 
-impl Model for Log {
+impl<O: Packed, R: PackedReply> Model for Log<O, R> {
     ghost use Rattle.k42_log.specs.Logs.{LogSeen};
 
-    ghost Value = { LogSeen };
+    ghost Value = { LogSeen O R };
 
     ghost use Rattle.k42_log.specs.LogFields.{IsSound, seen};
 
-    ghost view = { seen };
+    ghost view = { seen O.packing R.packing };
 
-    ghost invariant = { IsSound };
+    ghost invariant = { IsSound O.packing R.packing };
 }
 
-impl Log {
+/// More than the details of any entry.
+fn over_most<O: Packed, R: Packed>() -> Size
+    ensures { result ≡ over_most O.packing R.packing }
+{
+    let ops = O::most();
+    let replies = R::most();
+    Size {
+        words: ops.words + replies.words + 1,
+        bytes: ops.bytes + replies.bytes + 1,
+    }
+}
+
+impl<O: Packed, R: PackedReply> Log<O, R> {
     /// No entries of the caller, whose next entry has this index. It asks for no memory yet.
-    pub fn new(alloc: Global, caller: u32, proc: u32, first: u64) -> Log
+    pub fn new(alloc: Global, caller: u32, proc: u32, first: u64) -> Log<O, R>
         ensures { result ≡ record { owner = record { caller = caller; proc = proc }; first = first; entries = []; room = 0 } }
     {
         Log {
@@ -46,6 +60,7 @@ impl Log {
             first,
             caller,
             proc,
+            of: PhantomData,
         }
     }
 
@@ -92,11 +107,11 @@ impl Log {
         ensures memory { OnErr result (self.new ≡ self.old) }
     {
         self.heads.reserve(1)?;
-        self.stored.reserve()
+        self.stored.reserve(over_most::<O, R>())
     }
 
     /// Adds the entry at the end.
-    pub fn push(&mut self, entry: &Entry)
+    pub fn push(&mut self, entry: &Entry<O, R>)
         requires room { 0 < self.old.room }
         requires next { IsNextOf self.old entry.now }
         ensures entries { self.new.entries ≡ self.old.entries ++ entry.now ∷ [] }
@@ -124,7 +139,7 @@ impl Log {
                 small: answer_small(&entry.answer),
                 place: place_of(entry.cell, entry.object, entry.generation),
                 act: to_name(to),
-                answer: answer_name(&entry.answer),
+                answer: end_name(&entry.answer),
             }),
         }
     }
@@ -139,8 +154,8 @@ impl Log {
         row: u32,
         cell: u32,
         generation: Option<u32>,
-        op: &Op,
-        reply: &Reply,
+        op: &O,
+        reply: &R,
     )
         requires room { 0 < self.old.room }
         requires few { next_index self.old < PASS_ENTRIES }
@@ -151,28 +166,26 @@ impl Log {
         ensures first { self.new.first ≡ self.old.first }
         ensures room { self.old.room ≤ self.new.room + 1 }
     {
-        self.stored.keep_op(op);
-        self.stored.keep_reply(reply);
+        let asked = op.label();
+        let told = reply.label();
+        self.stored.keep(op);
+        self.stored.keep(reply);
         self.heads.push_reserved(Head {
             stamp,
             incarnation: row,
             generation: generation_or_0(generation),
-            small: op_small(op),
+            small: asked.small,
             place: place_of(cell, object, generation),
-            act: op_name(op),
-            answer: reply_name(reply),
+            act: asked.tag,
+            answer: told.tag,
         });
     }
 
     /// Its entries, none of them read yet.
-    pub fn unread(&self) -> Unread<'_>
+    pub fn unread(&self) -> Unread<'_, O, R>
         ensures { result ≡ self.now.entries }
     {
-        let reading = Reading::of(
-            self.stored.names.as_slice(),
-            self.stored.texts.as_slice(),
-            self.stored.numbers.as_slice(),
-        );
+        let reading = Reading::of(self.stored.words.as_slice(), self.stored.bytes.as_slice());
         Unread::of(
             self.heads.as_slice(),
             reading,

@@ -1,102 +1,65 @@
-//! What acts and answers are called.
+//! What swaps ask, and how they are answered, as numbers.
 ghost use Rattle.std.specs.Prelude.{◌≡◌};
-ghost use Rattle.k42_log.specs.Names.{op_name, to_name, reply_name, answer_name};
+ghost use Rattle.k42_log.specs.Names.{end_name, end_named, names_reply, to_name, to_named};
 
-use k42_kinds::{Answer, LayoutName, Op, Reply, To};
+use k42_kinds::{Answer, LayoutName, REPLY_TAGS, To};
 
-/// What was asked, without its arguments.
-#[derive(Clone, Copy, Debug, PartialEq, Eq)]
-pub(crate) enum ActName {
-    Add,
-    Get,
-    Drain,
-    Bind,
-    Find,
-    Unbind,
-    Size,
-    Write,
-    Read,
-    Dirty,
-    Clean,
-    Seen,
-    Shared,
-    Spread,
-    Dead,
-    Watch,
-    Unwatch,
-}
-
-/// What was answered, without a number or a text: the first seven by an object.
-#[derive(Clone, Copy, Debug, PartialEq, Eq)]
-pub(crate) enum AnswerName {
-    Done,
-    Taken,
-    None,
-    Number,
-    Text,
-    Zero,
-    Gone,
-    Swapped,
-    Busy,
-    Spent,
-    Dead,
-    Abandoned,
-}
-
-pub(crate) fn op_name(op: &Op) -> ActName
-    ensures { result ≡ op_name op.now }
-{
-    match op {
-        Op::Add(_) => ActName::Add,
-        Op::Get => ActName::Get,
-        Op::Drain => ActName::Drain,
-        Op::Bind(_, _) => ActName::Bind,
-        Op::Find(_) => ActName::Find,
-        Op::Unbind(_) => ActName::Unbind,
-        Op::Size => ActName::Size,
-        Op::Write(_, _) => ActName::Write,
-        Op::Read(_) => ActName::Read,
-        Op::Dirty => ActName::Dirty,
-        Op::Clean => ActName::Clean,
-        Op::Seen => ActName::Seen,
-    }
-}
-
-pub(crate) fn to_name(to: &To) -> ActName
+pub(crate) fn to_name(to: &To) -> u8
     ensures { result ≡ to_name to.now }
 {
     match to {
-        To::Layout(LayoutName::Shared) => ActName::Shared,
-        To::Layout(LayoutName::Spread) => ActName::Spread,
-        To::Dead => ActName::Dead,
-        To::Watch => ActName::Watch,
-        To::Unwatch => ActName::Unwatch,
+        To::Layout(LayoutName::Shared) => 0,
+        To::Layout(LayoutName::Spread) => 1,
+        To::Dead => 2,
+        To::Watch => 3,
+        To::Unwatch => 4,
     }
 }
 
-pub(crate) fn reply_name(reply: &Reply) -> AnswerName
-    ensures { result ≡ reply_name reply.now }
+pub(crate) fn to_named(name: u8) -> To
+    ensures { result ≡ to_named name }
 {
-    match reply {
-        Reply::Done => AnswerName::Done,
-        Reply::Taken => AnswerName::Taken,
-        Reply::None => AnswerName::None,
-        Reply::Number(_) => AnswerName::Number,
-        Reply::Text(_) => AnswerName::Text,
-        Reply::Zero => AnswerName::Zero,
-        Reply::Gone => AnswerName::Gone,
+    match name {
+        0 => To::Layout(LayoutName::Shared),
+        1 => To::Layout(LayoutName::Spread),
+        2 => To::Dead,
+        3 => To::Watch,
+        _ => To::Unwatch,
     }
 }
 
-pub(crate) fn answer_name(answer: &Answer) -> AnswerName
-    ensures { result ≡ answer_name answer.now }
+/// How a swap was answered.
+pub(crate) fn end_name<R>(answer: &Answer<R>) -> u8
+    ensures { result ≡ end_name answer.now }
 {
     match answer {
-        Answer::Replied(reply) => reply_name(reply),
-        Answer::Swapped(_) => AnswerName::Swapped,
-        Answer::Busy(_) => AnswerName::Busy,
-        Answer::Spent => AnswerName::Spent,
-        Answer::Gone => AnswerName::Dead,
-        Answer::Abandoned(_) => AnswerName::Abandoned,
+        Answer::Swapped(_) => REPLY_TAGS,
+        Answer::Busy(_) => REPLY_TAGS + 1,
+        Answer::Spent => REPLY_TAGS + 2,
+        Answer::Gone => REPLY_TAGS + 3,
+        _ => REPLY_TAGS + 4,
     }
+}
+
+pub(crate) fn end_named<R>(name: u8, small: u32) -> Answer<R>
+    ensures { result ≡ end_named name small }
+{
+    if name == REPLY_TAGS {
+        Answer::Swapped(small)
+    } else if name == REPLY_TAGS + 1 {
+        Answer::Busy(small)
+    } else if name == REPLY_TAGS + 2 {
+        Answer::Spent
+    } else if name == REPLY_TAGS + 3 {
+        Answer::Gone
+    } else {
+        Answer::Abandoned(small)
+    }
+}
+
+/// Whether the name of an answer is that of a reply.
+pub(crate) fn names_reply(name: u8) -> bool
+    ensures { result ≡ names_reply name }
+{
+    name < REPLY_TAGS
 }

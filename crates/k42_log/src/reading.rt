@@ -1,18 +1,18 @@
 //! Details, read one after the other.
-ghost use Rattle.std.specs.Prelude.{◌≡◌, ◌<◌, length, drop};
-ghost use Rattle.k42_log.specs.Details.{HasSoMany, act_counts, answer_counts, behind, first_name, first_number, first_text};
-ghost use Rattle.k42_log.specs.Heads.{act_back, answer_back};
+ghost use Rattle.std.specs.Prelude.{◌≡◌};
+ghost use Rattle.k42_log.specs.Details.{HasSoMany, behind, front};
+ghost use Rattle.k42_log.specs.Heads.{act_back, act_size, answer_back, answer_size};
 
-use crate::name::{ActName, AnswerName};
-use k42_kinds::{Act, Answer, LayoutName, Name, Op, Reply, Text, To};
+use crate::head::Head;
+use crate::name::{end_named, names_reply, to_named};
+use k42_kinds::{Act, Answer, Label, Packed};
 use std::marker::Model;
 
 /// The details that were not read yet.
 #[derive(Drop)]
 pub(crate) struct Reading<'a> {
-    names: &'a [Name],
-    texts: &'a [Text],
-    numbers: &'a [u64],
+    words: &'a [u64],
+    bytes: &'a [u8],
 }
 
 impl<'a> Model for Reading<'a> {
@@ -20,103 +20,59 @@ impl<'a> Model for Reading<'a> {
 
     ghost Value = { Details };
 
-    ghost view = { λ r. record { names = r.names.now; texts = r.texts.now; numbers = r.numbers.now } };
+    ghost view = { λ r. record { words = r.words.now; bytes = r.bytes.now } };
 }
 
 impl<'a> Reading<'a> {
-    pub(crate) fn of(names: &'a [Name], texts: &'a [Text], numbers: &'a [u64]) -> Reading<'a>
-        ensures { result ≡ record { names = names.now; texts = texts.now; numbers = numbers.now } }
+    pub(crate) fn of(words: &'a [u64], bytes: &'a [u8]) -> Reading<'a>
+        ensures { result ≡ record { words = words.now; bytes = bytes.now } }
     {
-        Reading {
-            names,
-            texts,
-            numbers,
+        Reading { words, bytes }
+    }
+
+    /// The value that has this label and the first of the details.
+    fn next<V: Packed>(&mut self, label: Label) -> V
+        requires { HasSoMany (V.packing.size label) self.old }
+        ensures value { result ≡ V.packing.unpack label (front (V.packing.size label) self.old).words (front (V.packing.size label) self.old).bytes }
+        ensures rest { self.new ≡ behind (V.packing.size label) self.old }
+    {
+        let size = V::size(label);
+        let (words, other_words) = self.words.split_at(size.words);
+        let (bytes, other_bytes) = self.bytes.split_at(size.bytes);
+        self.words = other_words;
+        self.bytes = other_bytes;
+        V::unpack(label, words, bytes)
+    }
+
+    pub(crate) fn next_act<O: Packed>(&mut self, head: &Head) -> Act<O>
+        requires { HasSoMany (act_size O.packing head.now) self.old }
+        ensures act { result ≡ act_back O.packing head.now (front (act_size O.packing head.now) self.old) }
+        ensures rest { self.new ≡ behind (act_size O.packing head.now) self.old }
+    {
+        if names_reply(head.answer) {
+            let label = Label {
+                tag: head.act,
+                small: head.small,
+            };
+            Act::Call(self.next(label))
+        } else {
+            Act::Swap(to_named(head.act))
         }
     }
 
-    fn next_name(&mut self) -> Name
-        requires { 0 < length self.old.names }
-        ensures name { result ≡ first_name self.old }
-        ensures rest { self.new ≡ record self.old { names = drop 1 self.old.names } }
+    pub(crate) fn next_answer<R: Packed>(&mut self, head: &Head) -> Answer<R>
+        requires { HasSoMany (answer_size R.packing head.now) self.old }
+        ensures answer { result ≡ answer_back R.packing head.now (front (answer_size R.packing head.now) self.old) }
+        ensures rest { self.new ≡ behind (answer_size R.packing head.now) self.old }
     {
-        let Some((name, rest)) = self.names.split_first() else {
-            unreachable!()
-        };
-        self.names = rest;
-        *name
-    }
-
-    fn next_text(&mut self) -> Text
-        requires { 0 < length self.old.texts }
-        ensures text { result ≡ first_text self.old }
-        ensures rest { self.new ≡ record self.old { texts = drop 1 self.old.texts } }
-    {
-        let Some((text, rest)) = self.texts.split_first() else {
-            unreachable!()
-        };
-        self.texts = rest;
-        *text
-    }
-
-    fn next_number(&mut self) -> u64
-        requires { 0 < length self.old.numbers }
-        ensures number { result ≡ first_number self.old }
-        ensures rest { self.new ≡ record self.old { numbers = drop 1 self.old.numbers } }
-    {
-        let Some((number, rest)) = self.numbers.split_first() else {
-            unreachable!()
-        };
-        self.numbers = rest;
-        *number
-    }
-
-    pub(crate) fn next_act(&mut self, name: ActName, small: u32) -> Act
-        requires { HasSoMany (act_counts name) self.old }
-        ensures act { result ≡ act_back name small self.old }
-        ensures rest { self.new ≡ behind (act_counts name) self.old }
-    {
-        match name {
-            ActName::Add => Act::Call(Op::Add(small)),
-            ActName::Get => Act::Call(Op::Get),
-            ActName::Drain => Act::Call(Op::Drain),
-            ActName::Bind => {
-                let key = self.next_name();
-                Act::Call(Op::Bind(key, self.next_number()))
-            }
-            ActName::Find => Act::Call(Op::Find(self.next_name())),
-            ActName::Unbind => Act::Call(Op::Unbind(self.next_name())),
-            ActName::Size => Act::Call(Op::Size),
-            ActName::Write => Act::Call(Op::Write((small % 65_536) as u16, self.next_text())),
-            ActName::Read => Act::Call(Op::Read((small % 65_536) as u16)),
-            ActName::Dirty => Act::Call(Op::Dirty),
-            ActName::Clean => Act::Call(Op::Clean),
-            ActName::Seen => Act::Call(Op::Seen),
-            ActName::Shared => Act::Swap(To::Layout(LayoutName::Shared)),
-            ActName::Spread => Act::Swap(To::Layout(LayoutName::Spread)),
-            ActName::Dead => Act::Swap(To::Dead),
-            ActName::Watch => Act::Swap(To::Watch),
-            ActName::Unwatch => Act::Swap(To::Unwatch),
-        }
-    }
-
-    pub(crate) fn next_answer(&mut self, name: AnswerName, small: u32) -> Answer
-        requires { HasSoMany (answer_counts name) self.old }
-        ensures answer { result ≡ answer_back name small self.old }
-        ensures rest { self.new ≡ behind (answer_counts name) self.old }
-    {
-        match name {
-            AnswerName::Done => Answer::Replied(Reply::Done),
-            AnswerName::Taken => Answer::Replied(Reply::Taken),
-            AnswerName::None => Answer::Replied(Reply::None),
-            AnswerName::Number => Answer::Replied(Reply::Number(self.next_number())),
-            AnswerName::Text => Answer::Replied(Reply::Text(self.next_text())),
-            AnswerName::Zero => Answer::Replied(Reply::Zero),
-            AnswerName::Gone => Answer::Replied(Reply::Gone),
-            AnswerName::Swapped => Answer::Swapped(small),
-            AnswerName::Busy => Answer::Busy(small),
-            AnswerName::Spent => Answer::Spent,
-            AnswerName::Dead => Answer::Gone,
-            AnswerName::Abandoned => Answer::Abandoned(small),
+        if names_reply(head.answer) {
+            let label = Label {
+                tag: head.answer,
+                small: 0,
+            };
+            Answer::Replied(self.next(label))
+        } else {
+            end_named(head.answer, head.small)
         }
     }
 }

@@ -6,10 +6,10 @@ ghost use Rattle.k42_log.specs.Standing.{standing_of};
 
 use crate::head::Head;
 use crate::reading::Reading;
-use k42_kinds::Entry;
+use k42_kinds::{Entry, Packed, PackedReply};
 use k42_memory::Memory;
 use std::alloc::Global;
-use std::marker::Model;
+use std::marker::{Model, PhantomData};
 
 /// By what entries of several callers are ordered.
 #[derive(Clone, Copy, Debug, PartialEq, Eq)]
@@ -22,28 +22,29 @@ pub struct Standing {
 
 /// The entries of a log that were not read yet, the first of them first.
 #[derive(Drop)]
-pub struct Unread<'a> {
+pub struct Unread<'a, O: Packed, R: PackedReply> {
     heads: &'a [Head],
     reading: Reading<'a>,
     index: u64,
     caller: u32,
     proc: u32,
+    of: PhantomData<(O, R)>,
 }
 
-impl<'a> Model for Unread<'a> {
+impl<'a, O: Packed, R: PackedReply> Model for Unread<'a, O, R> {
     ghost use Rattle.std.specs.Prelude.{List, ◌<◌, ◌+◌, ◌^◌, length};
     ghost use Rattle.k42_kinds.specs.declared.entry.Entry.{Entry};
 
-    ghost Value = { List Entry };
+    ghost Value = { List (Entry O R) };
 
     ghost use Rattle.k42_log.specs.Entries.{AreWhole, entries_back};
 
-    ghost view = { λ u. entries_back (record { caller = u.caller; proc = u.proc }) u.index u.heads.now u.reading };
+    ghost view = { λ u. entries_back O.packing R.packing (record { caller = u.caller; proc = u.proc }) u.index u.heads.now u.reading };
 
-    ghost invariant = { λ u. AreWhole u.heads.now u.reading × (u.index + length u.heads.now < 2 ^ 64) };
+    ghost invariant = { λ u. AreWhole O.packing R.packing u.heads.now u.reading × (u.index + length u.heads.now < 2 ^ 64) };
 }
 
-impl<'a> Unread<'a> {
+impl<'a, O: Packed, R: PackedReply> Unread<'a, O, R> {
     /// The entries of one caller, on one processor, with these heads and details.
     pub(crate) fn of(
         heads: &'a [Head],
@@ -51,10 +52,10 @@ impl<'a> Unread<'a> {
         index: u64,
         caller: u32,
         proc: u32,
-    ) -> Unread<'a>
-        requires whole { AreWhole heads.now reading }
+    ) -> Unread<'a, O, R>
+        requires whole { AreWhole O.packing R.packing heads.now reading }
         requires fits { index + length heads.now < 2 ^ 64 }
-        ensures { result ≡ entries_back (record { caller = caller; proc = proc }) index heads.now reading.entry }
+        ensures { result ≡ entries_back O.packing R.packing (record { caller = caller; proc = proc }) index heads.now reading.entry }
     {
         Unread {
             heads,
@@ -62,6 +63,7 @@ impl<'a> Unread<'a> {
             index,
             caller,
             proc,
+            of: PhantomData,
         }
     }
 
@@ -93,13 +95,13 @@ impl<'a> Unread<'a> {
     }
 
     /// Reads the next entry.
-    pub fn next(&mut self) -> Option<Entry>
+    pub fn next(&mut self) -> Option<Entry<O, R>>
         ensures next { result ≡ slice_get self.old 0 }
         ensures rest { self.new ≡ drop 1 self.old }
     {
         let (head, heads) = self.heads.split_first()?;
-        let act = self.reading.next_act(head.act, head.small);
-        let answer = self.reading.next_answer(head.answer, head.small);
+        let act = self.reading.next_act(head);
+        let answer = self.reading.next_answer(head);
         let entry = Entry {
             stamp: head.stamp,
             index: self.index,
@@ -118,7 +120,7 @@ impl<'a> Unread<'a> {
     }
 
     /// All that were not read yet. Want of memory leaves the log, which can be read again.
-    pub fn collect(mut self, alloc: Global) -> Result<Vec<Entry>, Memory>
+    pub fn collect(mut self, alloc: Global) -> Result<Vec<Entry<O, R>>, Memory>
         ensures { IfOk result (λ list. list.items ≡ self.entry) }
     {
         let mut list = Vec::with_capacity(alloc, self.len())?;

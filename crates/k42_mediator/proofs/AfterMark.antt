@@ -40,12 +40,12 @@ use Rattle.k42_mediator.proofs.Logs.{comes_by, comes_on}
 use Rattle.k42_mediator.proofs.NotesTold.{told_part, taken_now}
 
 -- a stamp that was drawn is later than all that the pass had drawn
-pub later_stamp : {P : Type 0} (v : PassView P) (cells : List ℕ) (stamp : ℕ) → stamp ≡ stamp_next v cells → last_stamp v.taker.mine < stamp
+pub later_stamp : {P O R : Type 0} (v : PassView P O R) (cells : List ℕ) (stamp : ℕ) → stamp ≡ stamp_next v cells → last_stamp v.taker.mine < stamp
     → last_stamp v.taker.mine < stamp_next v cells
 later_stamp v cells stamp is later = subst (λ n. last_stamp v.taker.mine < n) is later
 
 -- a word of an object that is over answers that
-pub over_told : (word : ℕ) (answer : Answer) → is_over_in word ≡ true → answer_in word ≡ Some answer → tells_over answer ≡ true
+pub over_told : {R : Type 0} (word : ℕ) (answer : Answer R) → is_over_in word ≡ true → answer_in word ≡ Some answer → tells_over answer ≡ true
 over_told word answer over told = go (eqb (layout_in word) 2) (eqb (incarnation_in word) LAST_INCARNATION) over told where
   go : (a b : Bool) → a || b ≡ true
       → cond a (Some Gone) (cond b (Some Spent) (cond (has_bit word 24) (Some (Busy (cond (has_bit word 27) (incarnation_in word) (incarnation_in word + 1)))) None)) ≡ Some answer
@@ -58,7 +58,7 @@ pub cell_small : (o i : ℕ) → o < 16 → cell_of o i 0 < CELLS
 cell_small o i few = omega (arith, few)
 
 -- the lock of another caller
-pub held_by : {S L P : Type 0} (words : LayoutWords S L P) (sys : SysSeen L) (n m found : ℕ) (old new : PassSeen P) → n ≡ m → (found ≡ 0 → ⊥)
+pub held_by : {S L P O R : Type 0} (words : LayoutWords S L P O R) (sys : SysSeen L) (n m found : ℕ) (old new : PassSeen P O R) → n ≡ m → (found ≡ 0 → ⊥)
     → HasStepped words sys (protocol.lock n) old found new → HasStepped words sys (protocol.lock m) old (found - 1 + 1) new
 held_by words sys n m found old new named other steps =
     let back : found ≡ found - 1 + 1 = omega (arith, other) in
@@ -69,14 +69,14 @@ holds_nothing [] n e = refl
 holds_nothing (m ∷ held) n e = absurd (cc)
 
 -- of the pass before its lock, the cell that it takes, and its draw
-module _ {P : Type 0} (v0 : PassView P) (n : ℕ) (cell : Content P) (number : cell.number ≡ n) (act : Act) (answer : Answer) (act_is : is_call act ≡ false) where
-  abbrev v : PassView P
+module _ {P O R : Type 0} (v0 : PassView P O R) (n : ℕ) (cell : Content P O R) (number : cell.number ≡ n) (act : Act O) (answer : Answer R) (act_is : is_call act ≡ false) where
+  abbrev v : PassView P O R
   v = taken_view cell (locked_view n 0 v0)
 
-  abbrev entry : Entry
+  abbrev entry : Entry O R
   entry = entry_mark v cell.number act answer
 
-  abbrev w : PassView P
+  abbrev w : PassView P O R
   w = drawn_at (cell ∷ []) entry v
 
   -- it may draw
@@ -87,10 +87,10 @@ module _ {P : Type 0} (v0 : PassView P) (n : ℕ) (cell : Content P) (number : c
       record { act_is = act_is; found = found; over = over; named = number ∙ named; held = is.held; part = is.part; few = few }
 
   -- once it has drawn
-  pub comes_drawn : (word : ℕ) (v1 v2 : PassView P) → ComesTo v0 v v1
+  pub comes_drawn : (word : ℕ) (v1 v2 : PassView P O R) → ComesTo v0 v v1
       → v2 ≡ took steps.Draw word 0 (drawn_at (cell ∷ []) (entry_mark v1 cell.number act answer) v1) → ComesTo v0 w v2
   comes_drawn word v1 v2 comes knows =
-      comes_on (λ (u : PassView _). drawn_at (cell ∷ []) (entry_mark u cell.number act answer) u) v0 v v1 v2 comes
+      comes_on (λ (u : PassView _ O R). drawn_at (cell ∷ []) (entry_mark u cell.number act answer) u) v0 v v1 v2 comes
       (comes_by v1 (drawn_at (cell ∷ []) (entry_mark v1 cell.number act answer) v1) v2 (step_at steps.Draw word 0 ∷ v1.log) knows
       (extends_one (step_at steps.Draw word 0) v1.log refl))
       (λ log u. refl)
@@ -118,19 +118,19 @@ module _ {P : Type 0} (v0 : PassView P) (n : ℕ) (cell : Content P) (number : c
   marked unheld unnoted settled told =
       ap (λ m. released (m ∷ []) w) (sym number) ∙ released_drawn (cell ∷ []) entry v
       ∙ ap (λ m. record (released (m ∷ []) v) { taker = caller_drawn entry (released (m ∷ []) v).taker; found = None; untold = [] }) number
-      ∙ ap (λ (u : PassView _). record u { taker = caller_drawn entry u.taker; found = None; untold = [] }) (released_taken [] n cell v0 number unheld unnoted)
-      ∙ ap (λ (u : PassView _). record u { taker = caller_drawn entry u.taker; found = None; untold = [] }) (released_none v0 settled)
+      ∙ ap (λ (u : PassView _ O R). record u { taker = caller_drawn entry u.taker; found = None; untold = [] }) (released_taken [] n cell v0 number unheld unnoted)
+      ∙ ap (λ (u : PassView _ O R). record u { taker = caller_drawn entry u.taker; found = None; untold = [] }) (released_none v0 settled)
       ∙ ap (λ cells. record v0 { taker = caller_drawn entry v0.taker; found = None; untold = cells }) (sym told)
 
   -- and has given the cell back
-  pub marked_now : (m : ℕ) (v2 new : PassView P) → m ≡ n → ComesTo v0 w v2 → ComesTo v2 (released (m ∷ []) v2) new
+  pub marked_now : (m : ℕ) (v2 new : PassView P O R) → m ≡ n → ComesTo v0 w v2 → ComesTo v2 (released (m ∷ []) v2) new
       → names v0.taker.held n ≡ false → names (cells_noted v0.notes) n ≡ false → v0.out ≡ None → v0.untold ≡ []
       → ComesTo v0 (record v0 { taker = caller_drawn entry v0.taker; found = None }) new
   marked_now m v2 new same drawn back unheld unnoted settled told =
-      subst (λ (due : PassView _). ComesTo v0 due new) (ap (λ k. released (k ∷ []) w) same ∙ marked unheld unnoted settled told)
+      subst (λ (due : PassView _ O R). ComesTo v0 due new) (ap (λ k. released (k ∷ []) w) same ∙ marked unheld unnoted settled told)
       (comes_on (released (m ∷ [])) v0 w v2 new drawn back (λ log u. refl))
 
-  pub mark_ready : {S L : Type 0} (F : Layouts S L P) → AreLaws F → (declared : List L) (id : ℕ) (log : List Taken) (new : Content P) → n < CELLS
+  pub mark_ready : {S L : Type 0} (F : Layouts S L P O R) → AreLaws F → (declared : List L) (id : ℕ) (log : List Taken) (new : Content P O R) → n < CELLS
       → IsTold w.notes cell new → MayPutBack F declared id (with_log log w) new
   mark_ready F laws declared id log new few told =
       let same : new.number ≡ n = told.number ∙ number in

@@ -46,20 +46,20 @@ stage_after procs (Interposing o p) k lt e = let is = lt-ltb k procs lt in rw is
 stage_after procs swap k lt e = absurd (none_next 0 e)
 
 -- what the pass knows after one more
-pub entry_changed : {P : Type 0} (procs k word found : ℕ) (first old new : PassView P) → length first.turn.waits ≡ procs
+pub entry_changed : {P O R : Type 0} (procs k word found : ℕ) (first old new : PassView P O R) → length first.turn.waits ≡ procs
     → k < procs → next_entry first.visitor.swap ≡ Some 0 → ComesTo first (staged (stage_at procs first.visitor.swap k) first) old
     → new ≡ took steps.ChangeEntry word found (changed_view old) → ComesTo first (staged (stage_at procs first.visitor.swap (k + 1)) first) new
-entry_changed procs k word found first old new waits lt start comes knows =
+entry_changed {O} {R} procs k word found first old new waits lt start comes knows =
     comes_by first (staged (stage_at procs first.visitor.swap (k + 1)) first) new (step_at steps.ChangeEntry word found ∷ old.log)
-    (knows ∙ ap (λ (w : PassView _). took steps.ChangeEntry word found (changed_view w)) comes.knows
+    (knows ∙ ap (λ (w : PassView _ O R). took steps.ChangeEntry word found (changed_view w)) comes.knows
     ∙ (λ i. with_log (step_at steps.ChangeEntry word found ∷ old.log) (staged (after_entry (waits i) (stage_at procs first.visitor.swap k)) first))
     ∙ ap (λ swap. with_log (step_at steps.ChangeEntry word found ∷ old.log) (staged swap first)) (stage_after procs first.visitor.swap k lt start))
     (extends_on comes.log (extends_one (step_at steps.ChangeEntry word found) old.log refl))
 
 -- all of an object that was turned over
-pub opens_all : {P : Type 0} (word found : ℕ) (v mid new : PassView P) → mid ≡ took steps.TurnOver word found (turned_view v)
+pub opens_all : {P O R : Type 0} (word found : ℕ) (v mid new : PassView P O R) → mid ≡ took steps.TurnOver word found (turned_view v)
     → ComesTo mid (staged (stage_changed mid.visitor.swap) mid) new → ComesTo v (opened_view v) new
-opens_all word found v mid new knows changed =
-    comes_on (λ (w : PassView _). staged (stage_changed w.visitor.swap) w) v (turned_view v) mid new
+opens_all {O} {R} word found v mid new knows changed =
+    comes_on (λ (w : PassView _ O R). staged (stage_changed w.visitor.swap) w) v (turned_view v) mid new
     (comes_by v (turned_view v) mid (step_at steps.TurnOver word found ∷ v.log) knows (extends_one (step_at steps.TurnOver word found) v.log refl))
     changed (λ log w. refl)

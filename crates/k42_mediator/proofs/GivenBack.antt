@@ -28,7 +28,7 @@ use Rattle.k42_mediator.proofs.Logs.{comes_by}
 use Rattle.k42_mediator.proofs.NotesTold.{cell_same, other_same}
 use Rattle.k42_mediator.proofs.Remaining.{remaining_all, remaining_twice, remaining_same, remaining_head, remaining_last, remaining_one, remaining_mapped}
 
-abbrev pub cell_in : {P : Type 0} → Note P → ℕ
+abbrev pub cell_in : {P O R : Type 0} → Note P O R → ℕ
 cell_in note = note.cell
 
 map_same : (xs : List ℕ) → map (λ n. n) xs ≡ xs
@@ -51,7 +51,7 @@ steps_back n full = step_at steps.Unlock (lock_word n) 0 ∷ put_at (lock_word n
 
 module _ {P : Type 0} where
   -- one cell put back and unlocked
-  pub given_one : (n : ℕ) (v : PassView P) → unlocked_view n (put_view n v) ≡ released (n ∷ []) v
+  pub given_one : {O R : Type 0} (n : ℕ) (v : PassView P O R) → unlocked_view n (put_view n v) ≡ released (n ∷ []) v
   given_one n v = λ i. record v {
     taker = record v.taker { held = remaining_one (λ m. m) n v.taker.held i };
     notes = remaining_one cell_in n v.notes i;
@@ -59,17 +59,17 @@ module _ {P : Type 0} where
   }
 
   -- by these steps
-  pub comes_back : (n : ℕ) (full : Bool) (v w new : PassView P)
+  pub comes_back : {O R : Type 0} (n : ℕ) (full : Bool) (v w new : PassView P O R)
       → w ≡ logs (put_at (lock_word n) full) (put_view n (took steps.Reach (lock_word n) 0 (reaching_view n v)))
       → new ≡ took steps.Unlock (lock_word n) 0 (unlocked_view n w) → ComesTo v (released (n ∷ []) v) new
-  comes_back n full v w new put left =
+  comes_back {O} {R} n full v w new put left =
       comes_by v (released (n ∷ []) v) new (steps_back n full ++ v.log)
-      (left ∙ ap (λ (u : PassView _). took steps.Unlock (lock_word n) 0 (unlocked_view n u)) put
+      (left ∙ ap (λ (u : PassView _ O R). took steps.Unlock (lock_word n) 0 (unlocked_view n u)) put
       ∙ ap (with_log (steps_back n full ++ v.log)) (given_one n v))
       (extends_by (steps_back n full) refl refl)
 
   -- some cells after the other
-  pub released_twice : (cells others : List ℕ) (v : PassView P) → released cells (released others v) ≡ released (cells ++ others) v
+  pub released_twice : {O R : Type 0} (cells others : List ℕ) (v : PassView P O R) → released cells (released others v) ≡ released (cells ++ others) v
   released_twice cells others v = λ i. record v {
     taker = record v.taker { held = remaining_twice (λ m. m) cells others v.taker.held i };
     notes = remaining_twice cell_in cells others v.notes i;
@@ -77,7 +77,7 @@ module _ {P : Type 0} where
   }
 
   -- none
-  pub released_none : (v : PassView P) → v.out ≡ None → released [] v ≡ v
+  pub released_none : {O R : Type 0} (v : PassView P O R) → v.out ≡ None → released [] v ≡ v
   released_none v settled = λ i. record v {
     taker = record v.taker { held = remaining_all (λ m. m) v.taker.held i };
     notes = remaining_all cell_in v.notes i;
@@ -85,28 +85,28 @@ module _ {P : Type 0} where
   }
 
   -- one whose lock was free is taken by these
-  pub comes_taken : (n found : ℕ) (content : Content P) (v v1 v2 : PassView P) → found ≡ 0
+  pub comes_taken : {O R : Type 0} (n found : ℕ) (content : Content P O R) (v v1 v2 : PassView P O R) → found ≡ 0
       → v1 ≡ took steps.Lock (lock_word n) found (locked_view n found v)
       → v2 ≡ gave_back (lock_word n) (took steps.Lift (lock_word n) 0 (lifted_view content v1))
       → ComesTo v (taken_view content (locked_view n 0 v)) v2
-  comes_taken n found content v v1 v2 free locked taken =
+  comes_taken {O} {R} n found content v v1 v2 free locked taken =
       comes_by v (taken_view content (locked_view n 0 v)) v2 (steps_taken n ++ v.log)
-      (taken ∙ ap (λ (u : PassView _). gave_back (lock_word n) (took steps.Lift (lock_word n) 0 (lifted_view content u)))
+      (taken ∙ ap (λ (u : PassView _ O R). gave_back (lock_word n) (took steps.Lift (lock_word n) 0 (lifted_view content u)))
       (locked ∙ ap (λ h. took steps.Lock (lock_word n) h (locked_view n h v)) free))
       (extends_by (steps_taken n) refl refl)
 
-  pub locked_home : (n found : ℕ) (v v1 : PassView P) → n < CELLS → found ≡ 0
+  pub locked_home : {O R : Type 0} (n found : ℕ) (v v1 : PassView P O R) → n < CELLS → found ≡ 0
       → v1 ≡ took steps.Lock (lock_word n) found (locked_view n found v) → names (cells_noted v.notes) n ≡ false → HoldsHome n v1
-  locked_home n found v v1 few free locked unnoted = record {
+  locked_home {O} {R} n found v v1 few free locked unnoted = record {
     cell = few;
     held =
-        ap (λ (u : PassView _). names u.taker.held n) (locked ∙ ap (λ h. took steps.Lock (lock_word n) h (locked_view n h v)) free)
+        ap (λ (u : PassView _ O R). names u.taker.held n) (locked ∙ ap (λ h. took steps.Lock (lock_word n) h (locked_view n h v)) free)
         ∙ holds_last v.taker.held n;
-    home = ap (λ (u : PassView _). names (cells_noted u.notes) n) locked ∙ unnoted;
+    home = ap (λ (u : PassView _ O R). names (cells_noted u.notes) n) locked ∙ unnoted;
   }
 
   -- one that was just taken
-  pub released_taken : (cells : List ℕ) (n : ℕ) (content : Content P) (v : PassView P) → content.number ≡ n
+  pub released_taken : {O R : Type 0} (cells : List ℕ) (n : ℕ) (content : Content P O R) (v : PassView P O R) → content.number ≡ n
       → names v.taker.held n ≡ false → names (cells_noted v.notes) n ≡ false
       → released (cells ++ n ∷ []) (taken_view content (locked_view n 0 v)) ≡ released cells v
   released_taken cells n content v number unheld unnoted =
@@ -118,7 +118,7 @@ module _ {P : Type 0} where
       }
 
   -- a draw at cells that are given back
-  pub released_drawn : (contents : List (Content P)) (entry : Entry) (v : PassView P)
+  pub released_drawn : {O R : Type 0} (contents : List (Content P O R)) (entry : Entry O R) (v : PassView P O R)
       → released (numbers_of contents) (drawn_at contents entry v)
       ≡ record (released (numbers_of contents) v) {
         taker = caller_drawn entry (released (numbers_of contents) v).taker;
@@ -135,7 +135,7 @@ module _ {P : Type 0} where
       }
 
 -- the part that is noted of a cell is due
-pub held_due : {S L P : Type 0} (F : Layouts S L P) → AreLaws F → (declared : List L) (id n : ℕ) (part : Option P) (w : PassView P)
+pub held_due : {S L P O R : Type 0} (F : Layouts S L P O R) → AreLaws F → (declared : List L) (id n : ℕ) (part : Option P) (w : PassView P O R)
     → names (cells_noted w.notes) n ≡ true → part_noted w.notes n ≡ part → Always F declared id w (λ s. IsPart F declared s n part)
 held_due F laws declared id n part w there e table r at =
     let first = first_note w.notes n there in

@@ -7,13 +7,13 @@ use Rattle.k42_board.specs.Seen.{SysSeen, PassSeen}
 use Rattle.k42_board.specs.Stepping.{WordStep, Takes, HasStepped}
 use Rattle.k42_board.specs.declared.view.PassView.{PassView}
 
-pub last_takes : {S L P : Type 0} (F : Layouts S L P) (declared : List L) (step : PassView P → WordStep S L P) (id : ℕ) (v : PassView P) (found : ℕ) (w : PassView P)
+pub last_takes : {S L P O R : Type 0} (F : Layouts S L P O R) (declared : List L) (step : PassView P O R → WordStep S L P O R) (id : ℕ) (v : PassView P O R) (found : ℕ) (w : PassView P O R)
     → Takes F declared step id v found w → last_found ((step v).after found).log ≡ found → Takes F declared step id v (last_found w.log) w
-last_takes F declared step id v found w takes last =
-    subst (λ h. Takes F declared step id v h w) (sym (ap (λ (u : PassView _). last_found u.log) takes.knows ∙ last)) takes
+last_takes {O} {R} F declared step id v found w takes last =
+    subst (λ h. Takes F declared step id v h w) (sym (ap (λ (u : PassView _ O R). last_found u.log) takes.knows ∙ last)) takes
 
-pub last_steps : {S L P : Type 0} (words : LayoutWords S L P) (sys : SysSeen L) (step : PassView P → WordStep S L P) (old : PassSeen P) (found : ℕ) (new : PassSeen P)
+pub last_steps : {S L P O R : Type 0} (words : LayoutWords S L P O R) (sys : SysSeen L) (step : PassView P O R → WordStep S L P O R) (old : PassSeen P O R) (found : ℕ) (new : PassSeen P O R)
     → HasStepped words sys step old found new → last_found ((step old.view).after found).log ≡ found
     → HasStepped words sys step old (last_found new.view.log) new
-last_steps words sys step old found new steps last =
-    subst (λ h. HasStepped words sys step old h new) (sym (ap (λ (u : PassView _). last_found u.log) steps.takes.knows ∙ last)) steps
+last_steps {O} {R} words sys step old found new steps last =
+    subst (λ h. HasStepped words sys step old h new) (sym (ap (λ (u : PassView _ O R). last_found u.log) steps.takes.knows ∙ last)) steps

@@ -28,9 +28,9 @@ leads_to layout p i e tagged same =
     ⊎_elim (λ (is : (e.tag ≡ 0) × (e.layout ≡ 0) × (e.cell ≡ 0)). let tag = is.0 in record { incarnation = same; tag = omega (arith, tag) })
     (λ is. let tag = is.0 in record { incarnation = same; tag = omega (arith, tag) }) tagged
 
-module _ {S L P : Type 0} (F : Layouts S L P) (declared : List L) (id o : ℕ) (w : PassView P) (unturned : w.turned ≡ false)
-    (table : State (Slot P) (View P)) (r : Rule F declared table) (at : get_elem? table.views id ≡ some (Crew (staged (Opened o) w ∷ []))) where
-  abbrev v : PassView P
+module _ {S L P O R : Type 0} (F : Layouts S L P O R) (declared : List L) (id o : ℕ) (w : PassView P O R) (unturned : w.turned ≡ false)
+    (table : State (Slot P O R) (View P O R)) (r : Rule F declared table) (at : get_elem? table.views id ≡ some (Crew (staged (Opened o) w ∷ []))) where
+  abbrev v : PassView P O R
   v = staged (Opened o) w
 
   abbrev s : Phases
@@ -54,6 +54,6 @@ module _ {S L P : Type 0} (F : Layouts S L P) (declared : List L) (id o : ℕ) (
       leads_to k.layout p (incarnation_in (word_begun v.last)) e open'.tagged
       (open'.number ∙ sym known'.bits_follow.incarnation ∙ sym (knows.phases.swap.begun o refl unturned))
 
-pub leaves_open : {S L P : Type 0} (F : Layouts S L P) (declared : List L) (id o : ℕ) (w : PassView P) → w.turned ≡ false → LeavesOpen F declared id (staged (Opened o) w)
+pub leaves_open : {S L P O R : Type 0} (F : Layouts S L P O R) (declared : List L) (id o : ℕ) (w : PassView P O R) → w.turned ≡ false → LeavesOpen F declared id (staged (Opened o) w)
 leaves_open F declared id o w unturned table r at =
     (clear_finds F declared id (staged (Opened o) w) table r at refl unturned, entries F declared id o w unturned table r at)

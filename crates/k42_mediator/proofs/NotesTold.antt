@@ -14,24 +14,24 @@ use Rattle.k42_mediator.specs.Taken.{IsTaken, AreTaken}
 use Rattle.k42_mediator.proofs.Remaining.{eqb_turned}
 
 -- the parts that are noted after a draw
-module _ {P : Type 0} (cells : List ℕ) (entry : Entry) (fresh : ℕ → Option P) where
-  abbrev drawn : Note P → Note P
+module _ {P O R : Type 0} (cells : List ℕ) (entry : Entry O R) (fresh : ℕ → Option P) where
+  abbrev drawn : Note P O R → Note P O R
   drawn note = told_note cells entry fresh note
 
-  pub cell_same : (note : Note P) → (drawn note).cell ≡ note.cell
+  pub cell_same : (note : Note P O R) → (drawn note).cell ≡ note.cell
   cell_same note = go (names cells note.cell) where
     go : (b : Bool) → (cond b (record note { history = note.history ++ entry ∷ []; part = fresh note.cell }) note).cell ≡ note.cell
     go true = refl
     go false = refl
 
   -- and the notes of other cells stay
-  pub other_same : (note : Note P) → names cells note.cell ≡ false → drawn note ≡ note
+  pub other_same : (note : Note P O R) → names cells note.cell ≡ false → drawn note ≡ note
   other_same note e = ap (λ b. cond b (record note { history = note.history ++ entry ∷ []; part = fresh note.cell }) note) e
 
-  part_now : (note : Note P) → names cells note.cell ≡ true → (drawn note).part ≡ fresh note.cell
+  part_now : (note : Note P O R) → names cells note.cell ≡ true → (drawn note).part ≡ fresh note.cell
   part_now note e = ap (λ b. (cond b (record note { history = note.history ++ entry ∷ []; part = fresh note.cell }) note).part) e
 
-  pub told_part : (notes : List (Note P)) (n : ℕ) → names (cells_noted notes) n ≡ true → names cells n ≡ true
+  pub told_part : (notes : List (Note P O R)) (n : ℕ) → names (cells_noted notes) n ≡ true → names cells n ≡ true
       → part_noted (told_notes cells entry fresh notes) n ≡ fresh n
   told_part [] n there named = absurd (cc)
   told_part (note ∷ notes) n there named =
@@ -54,7 +54,7 @@ or_right : (a b : Bool) → b ≡ true → a || b ≡ true
 or_right true b e = refl
 or_right false b e = e
 
-pub taken_now : {P : Type 0} (content : Content P) (notes : List (Note P)) → IsTaken (noted content ∷ notes) content
+pub taken_now : {P O R : Type 0} (content : Content P O R) (notes : List (Note P O R)) → IsTaken (noted content ∷ notes) content
 taken_now content notes =
     let same = eq-eqb content.number content.number refl in
     record {
@@ -66,7 +66,7 @@ taken_now content notes =
       part = rw same refl;
     }
 
-pub taken_before : {P : Type 0} (content other : Content P) (notes : List (Note P)) → eqb content.number other.number ≡ false → IsTaken notes other
+pub taken_before : {P O R : Type 0} (content other : Content P O R) (notes : List (Note P O R)) → eqb content.number other.number ≡ false → IsTaken notes other
     → IsTaken (noted content ∷ notes) other
 taken_before content other notes apart is = record {
   held = record {
@@ -89,15 +89,15 @@ or_parts false b e = (refl, e)
 or_parts true b e = absurd (cc)
 
 -- a number that none has is that of none
-pub apart_from : {P : Type 0} (n : ℕ) (contents : List (Content P)) → names (numbers_of contents) n ≡ false
-    → EachPlace (λ place (content : Content P). eqb n content.number ≡ false) contents
-apart_from n (x ∷ contents) none zero content e =
-    ap (eqb n) (ap (λ (z : Content _). z.number) (sym (same_Some x content e))) ∙ eqb_turned n x.number ∙ (or_parts (eqb x.number n) (names (numbers_of contents) n) none).0
+pub apart_from : {P O R : Type 0} (n : ℕ) (contents : List (Content P O R)) → names (numbers_of contents) n ≡ false
+    → EachPlace (λ place (content : Content P O R). eqb n content.number ≡ false) contents
+apart_from {O} {R} n (x ∷ contents) none zero content e =
+    ap (eqb n) (ap (λ (z : Content _ O R). z.number) (sym (same_Some x content e))) ∙ eqb_turned n x.number ∙ (or_parts (eqb x.number n) (names (numbers_of contents) n) none).0
 apart_from n (x ∷ contents) none (suc i) content e =
     apart_from n contents (or_parts (eqb x.number n) (names (numbers_of contents) n) none).1 i content e
 apart_from n [] none i content e = absurd (cc)
 
-pub taken_more : {P : Type 0} (content : Content P) (notes : List (Note P)) (contents : List (Content P)) → names (numbers_of contents) content.number ≡ false
+pub taken_more : {P O R : Type 0} (content : Content P O R) (notes : List (Note P O R)) (contents : List (Content P O R)) → names (numbers_of contents) content.number ≡ false
     → AreTaken notes contents → AreTaken (noted content ∷ notes) (contents ++ content ∷ [])
 taken_more content notes contents none each =
     each_more (IsTaken (noted content ∷ notes)) contents content

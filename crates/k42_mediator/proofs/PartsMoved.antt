@@ -4,18 +4,18 @@ use Rattle.k42_kinds.specs.Rows.{Ways, cells_of}
 use Rattle.k42_board.specs.declared.cell.Content.{Content}
 use Rattle.k42_mediator.specs.Parts.{AreKept}
 
-pub kept_same : {S P : Type 0} (ways : Ways S P) (procs many place : ℕ) (cells : List (Content P)) → AreKept ways procs many place cells cells
+pub kept_same : {S P O R : Type 0} (ways : Ways S P O R) (procs many place : ℕ) (cells : List (Content P O R)) → AreKept ways procs many place cells cells
 kept_same ways procs many place [] = tt
 kept_same ways procs many place (cell ∷ cells) = (inl refl, kept_same ways procs many (place + 1) cells)
 
-pub kept_front : {S P : Type 0} (ways : Ways S P) (procs many place : ℕ) (own new rest : List (Content P)) → AreKept ways procs many place own new
+pub kept_front : {S P O R : Type 0} (ways : Ways S P O R) (procs many place : ℕ) (own new rest : List (Content P O R)) → AreKept ways procs many place own new
     → AreKept ways procs many place (own ++ rest) (new ++ rest)
 kept_front ways procs many place [] [] rest are = kept_same ways procs many place rest
 kept_front ways procs many place [] (y ∷ new) rest are = absurd are
 kept_front ways procs many place (x ∷ own) [] rest are = absurd are
 kept_front ways procs many place (x ∷ own) (y ∷ new) rest are = (are.0, kept_front ways procs many (place + 1) own new rest are.1)
 
-pub kept_length : {S P : Type 0} (ways : Ways S P) (procs many place : ℕ) (own new : List (Content P)) → AreKept ways procs many place own new
+pub kept_length : {S P O R : Type 0} (ways : Ways S P O R) (procs many place : ℕ) (own new : List (Content P O R)) → AreKept ways procs many place own new
     → length new ≡ length own
 kept_length ways procs many place [] [] are = refl
 kept_length ways procs many place [] (y ∷ new) are = absurd are

@@ -42,12 +42,12 @@ module _ (n m : ℕ) (apart : eqb n m ≡ false) where
         ∙ ap (λ z. eqb k m || z) rest
 
 module _ {P : Type 0} (n m : ℕ) (apart : eqb n m ≡ false) where
-  abbrev left : (notes : List (Note P)) → List (Note P)
+  abbrev left : {O R : Type 0} (notes : List (Note P O R)) → List (Note P O R)
   left notes = filter (λ note. not (names (n ∷ []) note.cell)) notes
 
-  stays : {A : Type 0} (read : Note P → A) (none : A) (look : List (Note P) → A)
-      → look [] ≡ none → ((note : Note P) (notes : List (Note P)) → look (note ∷ notes) ≡ cond (eqb note.cell m) (read note) (look notes))
-      → (notes : List (Note P)) → look (left notes) ≡ look notes
+  stays : {A O R : Type 0} (read : Note P O R → A) (none : A) (look : List (Note P O R) → A)
+      → look [] ≡ none → ((note : Note P O R) (notes : List (Note P O R)) → look (note ∷ notes) ≡ cond (eqb note.cell m) (read note) (look notes))
+      → (notes : List (Note P O R)) → look (left notes) ≡ look notes
   stays read none look nil step [] = refl
   stays read none look nil step (note ∷ notes) = go (eqb n note.cell) refl (stays read none look nil step notes) where
     go : (b : Bool) → eqb n note.cell ≡ b → look (left notes) ≡ look notes
@@ -59,23 +59,23 @@ module _ {P : Type 0} (n m : ℕ) (apart : eqb n m ≡ false) where
         ap (λ b. look (cond (not (b || false)) (note ∷ left notes) (left notes))) e
         ∙ step note (left notes) ∙ ap (λ z. cond (eqb note.cell m) (read note) z) rest ∙ sym (step note notes)
 
-  pub part_stays : (notes : List (Note P)) → part_noted (left notes) m ≡ part_noted notes m
+  pub part_stays : {O R : Type 0} (notes : List (Note P O R)) → part_noted (left notes) m ≡ part_noted notes m
   part_stays notes = stays (λ note. note.part) None (λ ns. part_noted ns m) refl (λ note ns. refl) notes
 
-  pub history_stays : (notes : List (Note P)) → history_noted (left notes) m ≡ history_noted notes m
+  pub history_stays : {O R : Type 0} (notes : List (Note P O R)) → history_noted (left notes) m ≡ history_noted notes m
   history_stays notes = stays (λ note. note.history) [] (λ ns. history_noted ns m) refl (λ note ns. refl) notes
 
-  pub closed_stays : (notes : List (Note P)) → closed_noted (left notes) m ≡ closed_noted notes m
+  pub closed_stays : {O R : Type 0} (notes : List (Note P O R)) → closed_noted (left notes) m ≡ closed_noted notes m
   closed_stays notes = stays (λ note. note.closed) false (λ ns. closed_noted ns m) refl (λ note ns. refl) notes
 
-  pub noted_stays : (notes : List (Note P)) → names (cells_noted (left notes)) m ≡ names (cells_noted notes) m
+  pub noted_stays : {O R : Type 0} (notes : List (Note P O R)) → names (cells_noted (left notes)) m ≡ names (cells_noted notes) m
   noted_stays notes = stays (λ note. true) false (λ ns. names (cells_noted ns) m) refl (λ note ns. or_cond (eqb note.cell m) (names (cells_noted ns) m)) notes where
     or_cond : (a b : Bool) → a || b ≡ cond a true b
     or_cond true b = refl
     or_cond false b = refl
 
 -- a cell that is ready stays so as another is given back
-pub ready_stays : {S L P : Type 0} (F : Layouts S L P) (declared : List L) (id n : ℕ) (log : List Taken) (v : PassView P) (content : Content P)
+pub ready_stays : {S L P O R : Type 0} (F : Layouts S L P O R) (declared : List L) (id n : ℕ) (log : List Taken) (v : PassView P O R) (content : Content P O R)
     → eqb n content.number ≡ false → MayPutBack F declared id v content → MayPutBack F declared id (with_log log (released (n ∷ []) v)) content
 ready_stays F declared id n log v content apart ready =
     let m : ℕ = content.number in
@@ -123,7 +123,7 @@ last_once (x ∷ xs) n e =
 
 -- so many cells are left
 pub record IsGiving
-    {S L P : Type 0} (F : Layouts S L P) (declared : List L) (first now : PassSeen P) (before cells : List (Content P))
+    {S L P O R : Type 0} (F : Layouts S L P O R) (declared : List L) (first now : PassSeen P O R) (before cells : List (Content P O R))
     : Type 0 where
   pub same : IsSamePass first now
   pub once : names_once (numbers_of cells) ≡ true
@@ -141,14 +141,14 @@ at_end : {A : Type 0} (xs : List A) (x : A) → (k : ℕ) × (slice_get (xs ++ x
 at_end [] x = (0, refl)
 at_end (z ∷ xs) x = let rest = at_end xs x in (suc rest.0, rest.1)
 
-unnamed : {P : Type 0} (contents : List (Content P)) (n k : ℕ) (content : Content P) → names (numbers_of contents) n ≡ false → slice_get contents k ≡ Some content
+unnamed : {P O R : Type 0} (contents : List (Content P O R)) (n k : ℕ) (content : Content P O R) → names (numbers_of contents) n ≡ false → slice_get contents k ≡ Some content
     → eqb n content.number ≡ false
 unnamed [] n k content none e = absurd (cc)
-unnamed (x ∷ contents) n zero content none e =
-    ap (eqb n) (ap (λ (z : Content _). z.number) (sym (same_Some x content e))) ∙ eqb_turned n x.number ∙ (or_parts (eqb x.number n) (names (numbers_of contents) n) none).0
+unnamed {O} {R} (x ∷ contents) n zero content none e =
+    ap (eqb n) (ap (λ (z : Content _ O R). z.number) (sym (same_Some x content e))) ∙ eqb_turned n x.number ∙ (or_parts (eqb x.number n) (names (numbers_of contents) n) none).0
 unnamed (x ∷ contents) n (suc k) content none e = unnamed contents n k content (or_parts (eqb x.number n) (names (numbers_of contents) n) none).1 e
 
-module _ {S L P : Type 0} (F : Layouts S L P) (declared : List L) (first now : PassSeen P) (before cells xs : List (Content P)) (content : Content P)
+module _ {S L P O R : Type 0} (F : Layouts S L P O R) (declared : List L) (first now : PassSeen P O R) (before cells xs : List (Content P O R)) (content : Content P O R)
     (is : IsGiving F declared first now before cells) (are : cells ≡ xs ++ content ∷ []) where
   numbers : numbers_of cells ≡ numbers_of xs ++ content.number ∷ []
   numbers = ap numbers_of are ∙ numbers_more xs (content ∷ [])
@@ -162,7 +162,7 @@ module _ {S L P : Type 0} (F : Layouts S L P) (declared : List L) (first now : P
   pub last_ready : MayPutBack F declared first.seat now.view content
   last_ready = let at = at_end xs content in ready at.0 content at.1
 
-  pub gives_next : (new : PassSeen P) → IsSamePass now new → ComesTo now.view (released (content.number ∷ []) now.view) new.view
+  pub gives_next : (new : PassSeen P O R) → IsSamePass now new → ComesTo now.view (released (content.number ∷ []) now.view) new.view
       → IsGiving F declared first new before xs
   gives_next new same comes = record {
     same = record {
@@ -176,7 +176,7 @@ module _ {S L P : Type 0} (F : Layouts S L P) (declared : List L) (first now : P
       popped = same.popped ∙ is.same.popped;
     };
     once = front.once;
-    back = ap (λ (v : PassView _). v.out) comes.knows;
+    back = ap (λ (v : PassView _ O R). v.out) comes.knows;
     ready = λ k other at.
         subst (λ v. MayPutBack F declared first.seat v other) (sym comes.knows)
         (ready_stays F declared first.seat content.number new.view.log now.view other (unnamed xs content.number k other front.apart at) (ready k other (at_front xs content k other at)));

@@ -50,7 +50,7 @@ two_rows_once procs o i few =
     ∙ apart_row procs o (i + 1) o i is.place few (omega (arith, high)) (inr (λ same. omega (arith, same))))
 
 -- a cell that was taken is noted
-named_noted : {P : Type 0} (v : PassView P) (xs : List (Content P)) → AreTaken v.notes xs → (n : ℕ) → names (numbers_of xs) n ≡ true → names (cells_noted v.notes) n ≡ true
+named_noted : {P O R : Type 0} (v : PassView P O R) (xs : List (Content P O R)) → AreTaken v.notes xs → (n : ℕ) → names (numbers_of xs) n ≡ true → names (cells_noted v.notes) n ≡ true
 named_noted v [] taken n e = absurd (cc)
 named_noted v (x ∷ xs) taken n e =
     go (eqb x.number n) refl e (taken 0 x refl).held.noted (λ more. named_noted v xs (λ j y at'. taken (suc j) y at') n more)
@@ -60,18 +60,18 @@ named_noted v (x ∷ xs) taken n e =
     go true same e' first rest = ap (names (cells_noted v.notes)) (sym (eqb-true x.number n same)) ∙ first
     go false apart e' first rest = rest e'
 
-module _ {S L P : Type 0} (F : Layouts S L P) (laws : AreLaws F) (declared : List L)
+module _ {S L P O R : Type 0} (F : Layouts S L P O R) (laws : AreLaws F) (declared : List L)
     (agrees : (l m : L) → F.object_of l ≡ F.object_of m → F.tag_of l ≡ F.tag_of m
     → Agree (F.ways_of l) (F.ways_of m) (F.Whole l) (F.Whole m) (F.Serves l) (F.Serves m))
-    (v : PassView P) (o i : ℕ) (cells : List (Content P)) (layout : L) (has : HasRows F declared v o i cells layout)
-    (news : List (Content P)) (numbers : numbers_of news ≡ numbers_of cells) (entry : Entry) (tag : ℕ) (log : List Taken) where
-  abbrev from : List (Content P)
+    (v : PassView P O R) (o i : ℕ) (cells : List (Content P O R)) (layout : L) (has : HasRows F declared v o i cells layout)
+    (news : List (Content P O R)) (numbers : numbers_of news ≡ numbers_of cells) (entry : Entry O R) (tag : ℕ) (log : List Taken) where
+  abbrev from : List (Content P O R)
   from = take F.procs news
 
-  abbrev onto : List (Content P)
+  abbrev onto : List (Content P O R)
   onto = drop F.procs news
 
-  abbrev w : PassView P
+  abbrev w : PassView P O R
   w = with_log log (handed_at from onto entry tag v)
 
   both : from ++ onto ≡ news
@@ -84,7 +84,7 @@ module _ {S L P : Type 0} (F : Layouts S L P) (laws : AreLaws F) (declared : Lis
   once = ap names_once (numbers ∙ has.numbers) ∙ two_rows_once F.procs o i has.few
 
   -- the part that is noted of a cell is the one that it has
-  part_is : (k : ℕ) (content : Content P) → slice_get news k ≡ Some content → names (cells_noted v.notes) content.number ≡ true
+  part_is : (k : ℕ) (content : Content P O R) → slice_get news k ≡ Some content → names (cells_noted v.notes) content.number ≡ true
       → part_noted w.notes content.number ≡ content.part
   part_is k content at noted =
       let named : names (numbers_of from ++ numbers_of onto) content.number ≡ true =
@@ -92,11 +92,11 @@ module _ {S L P : Type 0} (F : Layouts S L P) (laws : AreLaws F) (declared : Lis
       handed_part (numbers_of from) (numbers_of onto) entry (part_in (from ++ onto)) v.notes content.number noted named
       ∙ ap (λ cs. part_in cs content.number) both ∙ part_at_once news k content once at
 
-  noted_is : (k : ℕ) (content : Content P) → slice_get news k ≡ Some content → names (cells_noted v.notes) content.number ≡ true
+  noted_is : (k : ℕ) (content : Content P O R) → slice_get news k ≡ Some content → names (cells_noted v.notes) content.number ≡ true
   noted_is k content at = named_noted v cells has.taken content.number (ap (λ ns. names ns content.number) (sym numbers) ∙ each_named news k content at)
 
   -- and the cells are ready to be given back
-  pub ready_handed : (id : ℕ) (told : List (Content P)) → AreTold w.notes news told → MayPutAllBack F declared id w told
+  pub ready_handed : (id : ℕ) (told : List (Content P O R)) → AreTold w.notes news told → MayPutAllBack F declared id w told
   ready_handed id told are k content at =
       let lt = slice_get_within told k content at in let long = are.0 in
       let old = at_of news k (omega (arith, lt, long)) in
@@ -119,7 +119,7 @@ module _ {S L P : Type 0} (F : Layouts S L P) (laws : AreLaws F) (declared : Lis
   done_later stamp is later =
       subst (λ n. last_stamp v.taker.mine < n) (is ∙ ap (stamp_next v) (sym (sym (numbers_more from onto) ∙ ap numbers_of both))) later
 
-  pub done_next : (act : Act) → last_stamp v.taker.mine < stamp_next v (numbers_of from ++ numbers_of onto) → is_call act ≡ false → 0 < F.procs
+  pub done_next : (act : Act O) → last_stamp v.taker.mine < stamp_next v (numbers_of from ++ numbers_of onto) → is_call act ≡ false → 0 < F.procs
       → numbers_of onto ≡ row_cells F.procs o (i + 1)
       → IsDoneNext act v (entry_hand v (numbers_of from) (numbers_of onto) act (Swapped (i + 1)))
   done_next act later asks some are =
@@ -147,7 +147,7 @@ module _ {S L P : Type 0} (F : Layouts S L P) (laws : AreLaws F) (declared : Lis
       first_of zero some' = absurd (omega (arith, some'))
       first_of (suc procs) some' = refl
 
-  pub has_handed : (act : Act) (old new : PassSeen P) → old.view ≡ v → new.view ≡ w → Extends old.view.log new.view.log → IsDrawer old new
+  pub has_handed : (act : Act O) (old new : PassSeen P O R) → old.view ≡ v → new.view ≡ w → Extends old.view.log new.view.log → IsDrawer old new
       → IsDoneNext act v entry → HasHanded act tag (numbers_of cells) old new
   has_handed act old new was e extends drawer next = record {
     drawer = drawer;

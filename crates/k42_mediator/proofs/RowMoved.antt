@@ -44,12 +44,12 @@ in_drop (suc n) (y ∷ xs) k x e = ap (λ j. slice_get (y ∷ xs) j) (after n k)
 
 -- cells that were kept
 
-pub record WasKept {S P : Type 0} (ways : Ways S P) (procs many place : ℕ) (olds : List (Content P)) (k : ℕ) (new : Content P) : Type 0 where
-  pub old : Content P
+pub record WasKept {S P O R : Type 0} (ways : Ways S P O R) (procs many place : ℕ) (olds : List (Content P O R)) (k : ℕ) (new : Content P O R) : Type 0 where
+  pub old : Content P O R
   pub at : slice_get olds k ≡ Some old
   pub kept : IsKept ways procs many place old new
 
-pub kept_at : {S P : Type 0} (ways : Ways S P) (procs many first : ℕ) (olds news : List (Content P)) (k : ℕ) (new : Content P)
+pub kept_at : {S P O R : Type 0} (ways : Ways S P O R) (procs many first : ℕ) (olds news : List (Content P O R)) (k : ℕ) (new : Content P O R)
     → AreKept ways procs many first olds news → slice_get news k ≡ Some new → WasKept ways procs many (first + k) olds k new
 kept_at ways procs many first [] [] k new are e = absurd (cc)
 kept_at ways procs many first [] (y ∷ news) k new are e = absurd are
@@ -67,12 +67,12 @@ kept_at ways procs many first (x ∷ olds) (y ∷ news) (suc k) new are e =
     after : (n k : ℕ) → n + 1 + k ≡ n + suc k
     after n k = omega arith
 
-kept_number : {S P : Type 0} (ways : Ways S P) (procs many place : ℕ) (old new : Content P) → IsKept ways procs many place old new → new.number ≡ old.number
-kept_number ways procs many place old new is =
-    ⊎_elim (λ (e : new ≡ old). ap (λ (z : Content _). z.number) e)
-    (λ (e : (place < many) × (new ≡ record old { part = Some (unwrap_or old.part (ways.empty procs place)) })). ap (λ (z : Content _). z.number) e.1) is
+kept_number : {S P O R : Type 0} (ways : Ways S P O R) (procs many place : ℕ) (old new : Content P O R) → IsKept ways procs many place old new → new.number ≡ old.number
+kept_number {O} {R} ways procs many place old new is =
+    ⊎_elim (λ (e : new ≡ old). ap (λ (z : Content _ O R). z.number) e)
+    (λ (e : (place < many) × (new ≡ record old { part = Some (unwrap_or old.part (ways.empty procs place)) })). ap (λ (z : Content _ O R). z.number) e.1) is
 
-pub kept_numbers : {S P : Type 0} (ways : Ways S P) (procs many first : ℕ) (olds news : List (Content P)) → AreKept ways procs many first olds news
+pub kept_numbers : {S P O R : Type 0} (ways : Ways S P O R) (procs many first : ℕ) (olds news : List (Content P O R)) → AreKept ways procs many first olds news
     → numbers_of news ≡ numbers_of olds
 kept_numbers ways procs many first [] [] are = refl
 kept_numbers ways procs many first [] (y ∷ news) are = absurd are
@@ -80,7 +80,7 @@ kept_numbers ways procs many first (x ∷ olds) [] are = absurd are
 kept_numbers ways procs many first (x ∷ olds) (y ∷ news) are =
     λ i. kept_number ways procs many first x y are.0 i ∷ kept_numbers ways procs many (first + 1) olds news are.1 i
 
-pub kept_held : {S P : Type 0} (ways : Ways S P) (procs many place : ℕ) (old new : Content P) (v : PassView P) → IsKept ways procs many place old new
+pub kept_held : {S P O R : Type 0} (ways : Ways S P O R) (procs many place : ℕ) (old new : Content P O R) (v : PassView P O R) → IsKept ways procs many place old new
     → IsHeld v.notes old → IsHeld v.notes new
 kept_held ways procs many place old new v is held =
     ⊎_elim (λ (e : new ≡ old). subst (IsHeld v.notes) (sym e) held)
@@ -89,19 +89,19 @@ kept_held ways procs many place old new v is held =
 
 -- cells that were filled
 
-pub filled_numbers : {P : Type 0} (parts : List P) (cells : List (Content P)) → numbers_of (filled parts cells) ≡ numbers_of cells
+pub filled_numbers : {P O R : Type 0} (parts : List P) (cells : List (Content P O R)) → numbers_of (filled parts cells) ≡ numbers_of cells
 filled_numbers parts [] = refl
 filled_numbers [] (x ∷ cells) = ap (λ rest. x.number ∷ rest) (filled_numbers [] cells)
 filled_numbers (part ∷ parts) (x ∷ cells) = ap (λ rest. x.number ∷ rest) (filled_numbers parts cells)
 
-pub filled_parts : {P : Type 0} (parts : List P) (cells : List (Content P)) → HaveParts parts (filled parts cells)
+pub filled_parts : {P O R : Type 0} (parts : List P) (cells : List (Content P O R)) → HaveParts parts (filled parts cells)
 filled_parts parts [] k content e = absurd (cc)
-filled_parts [] (x ∷ cells) zero content e = ap (λ (z : Content _). z.part) (sym (same_Some (record x { part = None }) content e))
+filled_parts {O} {R} [] (x ∷ cells) zero content e = ap (λ (z : Content _ O R). z.part) (sym (same_Some (record x { part = None }) content e))
 filled_parts [] (x ∷ cells) (suc k) content e = filled_parts [] cells k content e
-filled_parts (part ∷ parts) (x ∷ cells) zero content e = ap (λ (z : Content _). z.part) (sym (same_Some (record x { part = Some part }) content e))
+filled_parts {O} {R} (part ∷ parts) (x ∷ cells) zero content e = ap (λ (z : Content _ O R). z.part) (sym (same_Some (record x { part = Some part }) content e))
 filled_parts (part ∷ parts) (x ∷ cells) (suc k) content e = filled_parts parts cells k content e
 
-pub filled_held : {P : Type 0} (parts : List P) (cells : List (Content P)) (v : PassView P) → AreHeld v.notes cells → AreHeld v.notes (filled parts cells)
+pub filled_held : {P O R : Type 0} (parts : List P) (cells : List (Content P O R)) (v : PassView P O R) → AreHeld v.notes cells → AreHeld v.notes (filled parts cells)
 filled_held parts [] v held k content e = absurd (cc)
 filled_held [] (x ∷ cells) v held zero content e =
     subst (IsHeld v.notes) (same_Some (record x { part = None }) content e)
@@ -113,7 +113,7 @@ filled_held (part ∷ parts) (x ∷ cells) v held zero content e =
 filled_held (part ∷ parts) (x ∷ cells) v held (suc k) content e = filled_held parts cells v (λ j y at. held (suc j) y at) k content e
 
 -- what stands in cells that were taken is what is due by the notes
-pub parts_noted : {S P : Type 0} (ways : Ways S P) (procs : ℕ) (v : PassView P) (o i first many : ℕ) (cells : List (Content P))
+pub parts_noted : {S P O R : Type 0} (ways : Ways S P O R) (procs : ℕ) (v : PassView P O R) (o i first many : ℕ) (cells : List (Content P O R))
     → numbers_of cells ≡ made_from (cell_of o i) first many → AreTaken v.notes cells
     → parts_from ways procs first cells ≡ made_from (part_due ways procs v.notes o i) first many
 parts_noted ways procs v o i first zero [] are taken = refl

@@ -38,7 +38,7 @@ use Rattle.k42_mediator.proofs.RowMoved.{length_made, take_made, at_of, in_take,
 
 -- two rows whose cells a pass has taken
 pub record HasRows
-    {S L P : Type 0} (F : Layouts S L P) (declared : List L) (v : PassView P) (o i : ℕ) (cells : List (Content P)) (layout : L)
+    {S L P O R : Type 0} (F : Layouts S L P O R) (declared : List L) (v : PassView P O R) (o i : ℕ) (cells : List (Content P O R)) (layout : L)
     : Type 0 where
   pub moved : v.visitor.swap ≡ Moved o
   pub row : i ≡ incarnation_in (word_begun v.last)
@@ -54,17 +54,17 @@ pub record HasRows
   pub same : F.object_of layout ≡ F.object_of declaration
   pub tagged : F.tag_of layout ≡ layout_in (word_begun v.last)
 
-module _ {S L P : Type 0} (F : Layouts S L P) (laws : AreLaws F) (declared : List L)
+module _ {S L P O R : Type 0} (F : Layouts S L P O R) (laws : AreLaws F) (declared : List L)
     (agrees : (l m : L) → F.object_of l ≡ F.object_of m → F.tag_of l ≡ F.tag_of m
     → Agree (F.ways_of l) (F.ways_of m) (F.Whole l) (F.Whole m) (F.Serves l) (F.Serves m))
-    (v : PassView P) (o i : ℕ) (cells : List (Content P)) (layout : L) (has : HasRows F declared v o i cells layout) where
+    (v : PassView P O R) (o i : ℕ) (cells : List (Content P O R)) (layout : L) (has : HasRows F declared v o i cells layout) where
   abbrev procs : ℕ
   procs = F.procs
 
   abbrev many : ℕ
   many = cells_of (F.tag_of layout) procs
 
-  abbrev ways : Ways S P
+  abbrev ways : Ways S P O R
   ways = F.ways_of layout
 
   one_way : AreOneWay F
@@ -78,7 +78,7 @@ module _ {S L P : Type 0} (F : Layouts S L P) (laws : AreLaws F) (declared : Lis
 
   pub long : length cells ≡ procs + procs
   long =
-      sym (length-map cells (λ (content : Content P). content.number)) ∙ ap length has.numbers ∙ length-append (row_cells procs o i) (row_cells procs o (i + 1))
+      sym (length-map cells (λ (content : Content P O R). content.number)) ∙ ap length has.numbers ∙ length-append (row_cells procs o i) (row_cells procs o (i + 1))
       ∙ (λ j. length_made (cell_of o i) 0 procs j + length_made (cell_of o (i + 1)) 0 procs j)
 
   row_long : (j : ℕ) → length (row_cells procs o j) ≡ procs
@@ -86,17 +86,17 @@ module _ {S L P : Type 0} (F : Layouts S L P) (laws : AreLaws F) (declared : Lis
 
   pub old_numbers : numbers_of (take procs cells) ≡ row_cells procs o i
   old_numbers =
-      sym (take-map (λ (content : Content P). content.number) procs cells) ∙ ap (take procs) has.numbers
+      sym (take-map (λ (content : Content P O R). content.number) procs cells) ∙ ap (take procs) has.numbers
       ∙ ap (λ k. take k (row_cells procs o i ++ row_cells procs o (i + 1))) (sym (row_long i)) ∙ take-append_seam (row_cells procs o i) (row_cells procs o (i + 1))
 
   pub new_numbers : numbers_of (drop procs cells) ≡ row_cells procs o (i + 1)
   new_numbers =
-      sym (drop-map (λ (content : Content P). content.number) procs cells) ∙ ap (drop procs) has.numbers
+      sym (drop-map (λ (content : Content P O R). content.number) procs cells) ∙ ap (drop procs) has.numbers
       ∙ ap (λ k. drop k (row_cells procs o i ++ row_cells procs o (i + 1))) (sym (row_long i)) ∙ drop-append_seam (row_cells procs o i) (row_cells procs o (i + 1))
 
   own_numbers : numbers_of (take many cells) ≡ made_from (cell_of o i) 0 many
   own_numbers =
-      ap numbers_of (sym (take_twice many procs cells many_few)) ∙ sym (take-map (λ (content : Content P). content.number) many (take procs cells))
+      ap numbers_of (sym (take_twice many procs cells many_few)) ∙ sym (take-map (λ (content : Content P O R). content.number) many (take procs cells))
       ∙ ap (take many) old_numbers ∙ take_made (cell_of o i) 0 procs many many_few
 
   abbrev due : List P
@@ -106,9 +106,9 @@ module _ {S L P : Type 0} (F : Layouts S L P) (laws : AreLaws F) (declared : Lis
   pub parts_are : parts_from ways procs 0 (take many cells) ≡ due
   parts_are = parts_noted ways procs v o i 0 many (take many cells) own_numbers (λ k x e. has.taken k x (in_take many cells k x e))
 
-  at_place : (p : ℕ) → p < procs → (content : Content P) × (slice_get cells p ≡ Some content) × (content.number ≡ cell_of o i p)
+  at_place : (p : ℕ) → p < procs → (content : Content P O R) × (slice_get cells p ≡ Some content) × (content.number ≡ cell_of o i p)
   at_place p lt =
-      let in_row = at_of (take procs cells) p (let all = sym (length-map (take procs cells) (λ (content : Content P). content.number)) ∙ ap length old_numbers ∙ row_long i in omega (arith, all, lt)) in
+      let in_row = at_of (take procs cells) p (let all = sym (length-map (take procs cells) (λ (content : Content P O R). content.number)) ∙ ap length old_numbers ∙ row_long i in omega (arith, all, lt)) in
       let is = place_in_row (take procs cells) procs o i old_numbers has.few p in_row.0 in_row.1 in
       (in_row.0, in_take procs cells p in_row.0 in_row.1, is.0)
 
@@ -127,7 +127,7 @@ module _ {S L P : Type 0} (F : Layouts S L P) (laws : AreLaws F) (declared : Lis
 
   -- a cell as it was taken is ready to be given back
 
-  named_at : (k : ℕ) (content : Content P) → slice_get cells k ≡ Some content → names v.taker.held content.number ≡ true
+  named_at : (k : ℕ) (content : Content P O R) → slice_get cells k ≡ Some content → names v.taker.held content.number ≡ true
   named_at k content e = ap (λ held. names held content.number) has.holds ∙ each_named cells k content e
 
   pub named_small : (n : ℕ) → names (row_cells procs o i ++ row_cells procs o (i + 1)) n ≡ true → n < CELLS
@@ -145,11 +145,11 @@ module _ {S L P : Type 0} (F : Layouts S L P) (laws : AreLaws F) (declared : Lis
       below false true e' f is = in_row (i + 1) f
       below false false e' f is = absurd (cc)
 
-  number_small : (k : ℕ) (content : Content P) → slice_get cells k ≡ Some content → content.number < CELLS
+  number_small : (k : ℕ) (content : Content P O R) → slice_get cells k ≡ Some content → content.number < CELLS
   number_small k content e = named_small content.number (ap (λ ns. names ns content.number) (sym has.numbers) ∙ each_named cells k content e)
 
   module _ (id : ℕ) where
-    pub ready_same : (k : ℕ) (content : Content P) → slice_get cells k ≡ Some content → MayPutBack F declared id v content
+    pub ready_same : (k : ℕ) (content : Content P O R) → slice_get cells k ≡ Some content → MayPutBack F declared id v content
     ready_same k content at = record {
       cell = number_small k content at;
       holds = named_at k content at;
@@ -158,7 +158,7 @@ module _ {S L P : Type 0} (F : Layouts S L P) (laws : AreLaws F) (declared : Lis
     }
 
     -- where nothing was noted the empty part is due
-    made_due : (w : PassView P) → IsAlike v w → (n p : ℕ) → names (cells_noted w.notes) n ≡ true → part_noted w.notes n ≡ part_noted v.notes n
+    made_due : (w : PassView P O R) → IsAlike v w → (n p : ℕ) → names (cells_noted w.notes) n ≡ true → part_noted w.notes n ≡ part_noted v.notes n
         → n ≡ cell_of o i p → p < procs → p < many → (own : Option P) → part_noted v.notes n ≡ own
         → Always F declared id w (λ s. IsPart F declared s n (Some (unwrap_or own (ways.empty procs p))))
     made_due w alike n p there e named lt within (Some part) is table r at = held_due F laws declared id n (Some part) w there (e ∙ is) table r at
@@ -170,7 +170,7 @@ module _ {S L P : Type 0} (F : Layouts S L P) (laws : AreLaws F) (declared : Lis
         (ap (λ x. x.swap) alike.visitor ∙ has.moved) (alike.handed ∙ has.unhanded) (first.named ∙ named ∙ ap (λ j. cell_of o j p) row) lt
         has.declaration layout has.declares has.same (has.tagged ∙ ap (λ last. layout_in (word_begun last)) (sym alike.last)) within table r at)
 
-    pub ready_kept : (k : ℕ) (old new : Content P) → slice_get cells k ≡ Some old → old.number ≡ cell_of o i k → k < procs → IsKept ways procs many k old new
+    pub ready_kept : (k : ℕ) (old new : Content P O R) → slice_get cells k ≡ Some old → old.number ≡ cell_of o i k → k < procs → IsKept ways procs many k old new
         → MayPutBack F declared id v new
     ready_kept k old new at named lt is =
         ⊎_elim (λ (e : new ≡ old). subst (MayPutBack F declared id v) (sym e) (ready_same k old at))
@@ -198,17 +198,17 @@ part_made f first (suc many) zero lt = ap (λ j. Some (f j)) (omega arith)
 part_made f first (suc many) (suc k) lt = part_made f (suc first) many k (omega (arith, lt)) ∙ ap (λ j. Some (f j)) (omega arith)
 
 -- the cells once the state was moved between them, or not
-module _ {S L P : Type 0} (F : Layouts S L P) (laws : AreLaws F) (declared : List L)
+module _ {S L P O R : Type 0} (F : Layouts S L P O R) (laws : AreLaws F) (declared : List L)
     (agrees : (l m : L) → F.object_of l ≡ F.object_of m → F.tag_of l ≡ F.tag_of m
     → Agree (F.ways_of l) (F.ways_of m) (F.Whole l) (F.Whole m) (F.Serves l) (F.Serves m))
-    (v : PassView P) (o i : ℕ) (cells : List (Content P)) (layout : L) (has : HasRows F declared v o i cells layout)
-    (news : List (Content P)) (kept : AreKept (F.ways_of layout) F.procs (cells_of (F.tag_of layout) F.procs) 0 (take F.procs cells) (take F.procs news)) where
+    (v : PassView P O R) (o i : ℕ) (cells : List (Content P O R)) (layout : L) (has : HasRows F declared v o i cells layout)
+    (news : List (Content P O R)) (kept : AreKept (F.ways_of layout) F.procs (cells_of (F.tag_of layout) F.procs) 0 (take F.procs cells) (take F.procs news)) where
   pub from_numbers : numbers_of (take F.procs news) ≡ row_cells F.procs o i
   from_numbers =
       kept_numbers (F.ways_of layout) F.procs (cells_of (F.tag_of layout) F.procs) 0 (take F.procs cells) (take F.procs news) kept
       ∙ old_numbers F laws declared agrees v o i cells layout has
 
-  was : (k : ℕ) (new : Content P) → slice_get (take F.procs news) k ≡ Some new
+  was : (k : ℕ) (new : Content P O R) → slice_get (take F.procs news) k ≡ Some new
       → WasKept (F.ways_of layout) F.procs (cells_of (F.tag_of layout) F.procs) k (take F.procs cells) k new
   was k new at =
       subst (λ p. WasKept (F.ways_of layout) F.procs (cells_of (F.tag_of layout) F.procs) p (take F.procs cells) k new) (none k)
@@ -269,25 +269,25 @@ module _ {S L P : Type 0} (F : Layouts S L P) (laws : AreLaws F) (declared : Lis
       imported : List P
       imported = (F.ways_of to).imported F.procs (F.admitted to ((F.ways_of layout).combine (parts_from (F.ways_of layout) F.procs 0 (take (cells_of (F.tag_of layout) F.procs) cells))))
 
-      keeps : (k : ℕ) (new : Content P) → slice_get (take F.procs news) k ≡ Some new
+      keeps : (k : ℕ) (new : Content P O R) → slice_get (take F.procs news) k ≡ Some new
           → KeepsPart F declared v.notes (parts_due (F.ways_of layout) F.procs v.notes o i (F.tag_of layout)) k new
       keeps k new at =
           let old = was k new at in let part = (has.taken k old.old (in_take F.procs cells k old.old old.at)).part in
           let row = place_in_row (take F.procs cells) F.procs o i (old_numbers F laws declared agrees v o i cells layout has) has.few k old.old old.at in
-          ⊎_elim (λ (e : new ≡ old.old). inl (ap (λ (z : Content _). z.part) e ∙ part ∙ ap (λ (z : Content _). part_noted v.notes z.number) (sym e)))
+          ⊎_elim (λ (e : new ≡ old.old). inl (ap (λ (z : Content _ O R). z.part) e ∙ part ∙ ap (λ (z : Content _ O R). part_noted v.notes z.number) (sym e)))
           (λ (e : (k < cells_of (F.tag_of layout) F.procs) × (new ≡ record old.old { part = Some (unwrap_or old.old.part ((F.ways_of layout).empty F.procs k)) })).
-          inr (ap (λ (z : Content _). z.part) e.1 ∙ ap (λ own. Some (unwrap_or own ((F.ways_of layout).empty F.procs k))) (part ∙ ap (part_noted v.notes) row.0)
+          inr (ap (λ (z : Content _ O R). z.part) e.1 ∙ ap (λ own. Some (unwrap_or own ((F.ways_of layout).empty F.procs k))) (part ∙ ap (part_noted v.notes) row.0)
           ∙ sym (part_made (part_due (F.ways_of layout) F.procs v.notes o i) 0 (cells_of (F.tag_of layout) F.procs) k e.0 ∙ ap (λ j. Some (part_due (F.ways_of layout) F.procs v.notes o i j)) (omega arith))))
           old.kept
 
 -- all numbers are as they were
-pub numbers_same : {P : Type 0} (procs : ℕ) (cells news : List (Content P)) → numbers_of (take procs news) ≡ numbers_of (take procs cells)
+pub numbers_same : {P O R : Type 0} (procs : ℕ) (cells news : List (Content P O R)) → numbers_of (take procs news) ≡ numbers_of (take procs cells)
     → numbers_of (drop procs news) ≡ numbers_of (drop procs cells) → numbers_of news ≡ numbers_of cells
 numbers_same procs cells news front back =
     ap numbers_of (sym (take-append-drop procs news)) ∙ numbers_more (take procs news) (drop procs news) ∙ (λ j. front j ++ back j)
     ∙ sym (numbers_more (take procs cells) (drop procs cells)) ∙ ap numbers_of (take-append-drop procs cells)
 
-pub has_rows : {S L P : Type 0} (F : Layouts S L P) (declared : List L) (v : PassView P) (o i : ℕ) (cells : List (Content P)) (layout declaration : L)
+pub has_rows : {S L P O R : Type 0} (F : Layouts S L P O R) (declared : List L) (v : PassView P O R) (o i : ℕ) (cells : List (Content P O R)) (layout declaration : L)
     → v.visitor.swap ≡ Moved o → i ≡ incarnation_in (word_begun v.last) → v.handed ≡ None → (many : ℕ) → many ≡ F.procs → many ≤ 8 → o < 16
     → numbers_of cells ≡ row_cells F.procs o i ++ row_cells F.procs o (i + 1) → v.taker.held ≡ numbers_of cells → AreTaken v.notes cells
     → AreRowsNoted F declared v → slice_get declared o ≡ Some declaration → F.object_of layout ≡ F.object_of declaration
@@ -316,7 +316,7 @@ written_back new items len many is =
     ∙ ap (take len) (append-nil new) ∙ ap (λ k. take k new) (is ∙ sym many) ∙ take-length new
 
 -- what was told has its numbers
-pub told_numbers : {P : Type 0} (notes : List (Note P)) (olds news : List (Content P)) → AreTold notes olds news → numbers_of news ≡ numbers_of olds
+pub told_numbers : {P O R : Type 0} (notes : List (Note P O R)) (olds news : List (Content P O R)) → AreTold notes olds news → numbers_of news ≡ numbers_of olds
 told_numbers notes [] [] told = refl
 told_numbers notes [] (y ∷ news) told = absurd (let long = told.0 in omega (arith, long))
 told_numbers notes (x ∷ olds) [] told = absurd (let long = told.0 in omega (arith, long))

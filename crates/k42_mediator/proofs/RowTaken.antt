@@ -37,8 +37,8 @@ next_apart numbers held o i place are none =
 
 -- so many cells of the row are taken, behind those that were taken before
 pub record IsTaking
-    {S L P : Type 0} (F : Layouts S L P) (declared : List L) (o i place : ℕ) (first now : PassSeen P)
-    (before cells : List (Content P)) (len_before len room_before room : ℕ)
+    {S L P O R : Type 0} (F : Layouts S L P O R) (declared : List L) (o i place : ℕ) (first now : PassSeen P O R)
+    (before cells : List (Content P O R)) (len_before len room_before room : ℕ)
     : Type 0 where
   pub same : IsSamePass first now
   pub room_is : room ≡ room_before
@@ -50,7 +50,7 @@ pub record IsTaking
   pub log : Extends first.view.log now.view.log
   pub last : 0 < place → AreRowsNoted F declared now.view × (now.view.out ≡ None)
 
-module _ {S L P : Type 0} (F : Layouts S L P) (declared : List L) (o i : ℕ) (first : PassSeen P) (before : List (Content P)) (len_before room_before : ℕ) where
+module _ {S L P O R : Type 0} (F : Layouts S L P O R) (declared : List L) (o i : ℕ) (first : PassSeen P O R) (before : List (Content P O R)) (len_before room_before : ℕ) where
   pub takes_none : first.view.taker.held ≡ numbers_of before → AreTaken first.view.notes before
       → IsTaking F declared o i 0 first first before before len_before len_before room_before room_before
   takes_none held taken = record {
@@ -65,7 +65,7 @@ module _ {S L P : Type 0} (F : Layouts S L P) (declared : List L) (o i : ℕ) (f
     last = λ some. absurd (omega (arith, some));
   }
 
-  pub takes_next : (place : ℕ) (now new : PassSeen P) (cells more : List (Content P)) (len len' room room' n : ℕ)
+  pub takes_next : (place : ℕ) (now new : PassSeen P O R) (cells more : List (Content P O R)) (len len' room room' n : ℕ)
       → IsTaking F declared o i place first now before cells len_before len room_before room
       → n ≡ cell_of o i place → IsSamePass now new → room' ≡ room → len' ≡ len + 1 → numbers_of more ≡ numbers_of cells ++ n ∷ []
       → new.view.out ≡ None → new.view.taker.held ≡ numbers_of more → AreTaken new.view.notes more

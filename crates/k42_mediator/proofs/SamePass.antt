@@ -4,7 +4,7 @@ use Rattle.k42_board.specs.Drawing.{IsDrawer}
 use Rattle.k42_board.specs.Seen.{PassSeen, IsRoomLeft, IsSamePass, HasSameRoom}
 use Rattle.k42_board.specs.declared.keep.Keep.{Keep}
 
-pub same_twice : {P : Type 0} (p0 p1 p2 : PassSeen P) → IsSamePass p0 p1 → IsSamePass p1 p2 → IsSamePass p0 p2
+pub same_twice : {P O R : Type 0} (p0 p1 p2 : PassSeen P O R) → IsSamePass p0 p1 → IsSamePass p1 p2 → IsSamePass p0 p2
 same_twice p0 p1 p2 first second = record {
   table = second.table ∙ first.table;
   seat = second.seat ∙ first.seat;
@@ -20,7 +20,7 @@ cancel : (a b l m : ℕ) → a + l ≡ b + m → l ≡ m → a ≡ b
 cancel a b l m e f = omega (arith, e, f)
 
 -- where its rows stay, the room for them does
-pub same_of_room : {P : Type 0} (p0 p1 : PassSeen P) → HasSameRoom p0 p1 → p1.view.rows ≡ p0.view.rows → IsSamePass p0 p1
+pub same_of_room : {P O R : Type 0} (p0 p1 : PassSeen P O R) → HasSameRoom p0 p1 → p1.view.rows ≡ p0.view.rows → IsSamePass p0 p1
 same_of_room p0 p1 same rows = record {
   table = same.table;
   seat = same.seat;
@@ -32,7 +32,7 @@ same_of_room p0 p1 same rows = record {
   popped = same.popped;
 }
 
-pub draws_between : {P : Type 0} (p0 p1 p2 p3 : PassSeen P) → IsSamePass p0 p1 → IsDrawer p1 p2 → IsSamePass p2 p3 → IsDrawer p0 p3
+pub draws_between : {P O R : Type 0} (p0 p1 p2 p3 : PassSeen P O R) → IsSamePass p0 p1 → IsDrawer p1 p2 → IsSamePass p2 p3 → IsDrawer p0 p3
 draws_between p0 p1 p2 p3 first drew last = record {
   table = last.table ∙ drew.table ∙ first.table;
   seat = last.seat ∙ drew.seat ∙ first.seat;

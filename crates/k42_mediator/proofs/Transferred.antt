@@ -23,7 +23,7 @@ use Rattle.k42_mediator.proofs.Logs.{comes_by}
 use Rattle.k42_mediator.proofs.SamePass.{same_twice, draws_between}
 
 -- while an object is moved nobody is inside its rows
-pub left_always : {S L P : Type 0} (F : Layouts S L P) (declared : List L) (id o : ℕ) (v : PassView P) → v.visitor.swap ≡ Moved o
+pub left_always : {S L P O R : Type 0} (F : Layouts S L P O R) (declared : List L) (id o : ℕ) (v : PassView P O R) → v.visitor.swap ≡ Moved o
     → Always F declared id v (IsVacant o)
 left_always F declared id o v moved table r at d i there inside =
     let s = r.state.phases in
@@ -35,7 +35,7 @@ left_always F declared id o v moved table r at d i there inside =
     let moving = (rw stage at (object_known s r.sound.phases o named).bits_follow.bits).0.1 in
     moving_alone s d o r.sound.phases (turn_there s r.sound.phases d there) named moving i inside
 
-module _ {P : Type 0} (p0 p2 p3 p4 : PassSeen P) (ns : List ℕ) (took : IsSamePass p0 p2)
+module _ {P O R : Type 0} (p0 p2 p3 p4 : PassSeen P O R) (ns : List ℕ) (took : IsSamePass p0 p2)
     (chain : released ns p2.view ≡ with_log p2.view.log (released [] p0.view)) (since : Extends p0.view.log p2.view.log)
     (settled : p0.view.out ≡ None) (told : p0.view.untold ≡ [])
     (gave : IsSamePass p3 p4) (back : ComesTo p3.view (released ns p3.view) p4.view) where
@@ -44,14 +44,14 @@ module _ {P : Type 0} (p0 p2 p3 p4 : PassSeen P) (ns : List ℕ) (took : IsSameP
 
   pub has_kept : p3 ≡ p2 → HasKept p0 p4
   has_kept same = record {
-    same = same_twice p0 p2 p4 took (subst (λ (p : PassSeen _). IsSamePass p p4) same gave);
+    same = same_twice p0 p2 p4 took (subst (λ (p : PassSeen _ O R). IsSamePass p p4) same gave);
     comes =
         comes_by p0.view p0.view p4.view p4.view.log
-        (back.knows ∙ ap (λ (p : PassSeen _). with_log p4.view.log (released ns p.view)) same ∙ ap (with_log p4.view.log) was)
-        (extends_on since (subst (λ (p : PassSeen _). Extends p.view.log p4.view.log) same back.log));
+        (back.knows ∙ ap (λ (p : PassSeen _ O R). with_log p4.view.log (released ns p.view)) same ∙ ap (with_log p4.view.log) was)
+        (extends_on since (subst (λ (p : PassSeen _ O R). Extends p.view.log p4.view.log) same back.log));
   }
 
-  pub has_done : (act : Act) (tag : ℕ) → HasHanded act tag ns p2 p3 → HasDone act tag p0 p4
+  pub has_done : (act : Act O) (tag : ℕ) → HasHanded act tag ns p2 p3 → HasDone act tag p0 p4
   has_done act tag has = record {
     drawer = draws_between p0 p2 p3 p4 took has.drawer gave;
     entry = has.entry;

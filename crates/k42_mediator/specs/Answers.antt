@@ -38,5 +38,5 @@ abbrev pub knocked_in : ℕ → Knocked
 knocked_in word = if has_bit word 25 then Blocked else Admitted (incarnation_in word)
 
 -- to a pass that tries to move its object: nobody is counted, or so many are
-abbrev pub moving_in : {P : Type 0} → PassView P → ℕ → Moving
+abbrev pub moving_in : {P O R : Type 0} → PassView P O R → ℕ → Moving
 moving_in v word = if word == blocked_word v then Moved else InFlight (count_in word)

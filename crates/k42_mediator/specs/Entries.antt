@@ -8,7 +8,7 @@ use Rattle.k42_board.specs.declared.view.PassView.{PassView}
 
 -- the next entry of a pass, of a swap, later than all that it has drawn
 pub record IsNext
-    {P : Type 0} (v : PassView P) (object incarnation cell : ℕ) (act : Act) (answer : Answer) (entry : Entry)
+    {P O R : Type 0} (v : PassView P O R) (object incarnation cell : ℕ) (act : Act O) (answer : Answer R) (entry : Entry O R)
     : Type 0 where
   pub later : last_stamp v.taker.mine < entry.stamp
   pub whole :

@@ -13,18 +13,18 @@ use Rattle.k42_mediator.specs.Answers.{knocked_in}
 use Rattle.k42_mediator.specs.declared.answers.Knocked.{Knocked}
 
 -- the pass that has knocked, and found this word
-abbrev pub at_mediator : {P : Type 0} → ℕ → ℕ → PassView P → PassView P
+abbrev pub at_mediator : {P O R : Type 0} → ℕ → ℕ → PassView P O R → PassView P O R
 at_mediator o found v = took steps.Knock (object_word o) found (knocked_view o found v)
 
 -- it is inside the row; or, where the swap blocks, it has stepped out again
-abbrev pub GoesThrough : {P : Type 0} → ℕ → ℕ → Bool → PassView P → PassView P → Type 0
+abbrev pub GoesThrough : {P O R : Type 0} → ℕ → ℕ → Bool → PassView P O R → PassView P O R → Type 0
 GoesThrough o found false old new = new ≡ at_mediator o found old
 GoesThrough o found true old new =
     (left : ℕ) × (new ≡ took steps.StepOut (object_word o) left (ended_view (at_mediator o found old)))
 
 -- The word that the knock found decides.
 pub record IsKnock
-    {S L P : Type 0} (F : Layouts S L P) (declared : List L) (id o : ℕ) (old new : PassView P) (answer : Knocked)
+    {S L P O R : Type 0} (F : Layouts S L P O R) (declared : List L) (id o : ℕ) (old new : PassView P O R) (answer : Knocked)
     : Type 0 where
   pub found : ℕ
   pub knocked : Takes F declared (protocol.knock o) id old found (at_mediator o found old)

@@ -23,7 +23,7 @@ use Rattle.k42_mediator.specs.declared.answers.Marked.{Marked}
 use Rattle.k42_mediator.specs.declared.answers.Marked.TheVariants as marks
 
 -- its last Begin found the object over, and it has drawn nothing since; it holds no cell
-pub record MayMark {P : Type 0} (act : Act) (v : PassView P) : Type 0 where
+pub record MayMark {P O R : Type 0} (act : Act O) (v : PassView P O R) : Type 0 where
   pub act_is : is_call act ≡ false
   pub found : v.found ≡ answer_in (word_begun v.last)
   pub over : is_over_in (word_begun v.last) ≡ true
@@ -31,25 +31,25 @@ pub record MayMark {P : Type 0} (act : Act) (v : PassView P) : Type 0 where
   pub few : length v.taker.mine < PASS_ENTRIES
 
 -- the first cell of the present row
-abbrev pub cell_marked : {P : Type 0} → PassView P → ℕ
+abbrev pub cell_marked : {P O R : Type 0} → PassView P O R → ℕ
 cell_marked v = cell_of (object_begun v.last) (incarnation_in (word_begun v.last)) 0
 
 -- the pass has drawn what the Begin answered
-pub record HasMarked {P : Type 0} (act : Act) (old new : PassSeen P) : Type 0 where
+pub record HasMarked {P O R : Type 0} (act : Act O) (old new : PassSeen P O R) : Type 0 where
   pub drawer : IsDrawer old new
-  pub answer : Answer
+  pub answer : Answer R
   pub told : answer_in (word_begun old.view.last) ≡ Some answer
-  pub entry : Entry
+  pub entry : Entry O R
   pub next :
       IsNext old.view (object_begun old.view.last) (incarnation_in (word_begun old.view.last)) (cell_marked old.view) act
       answer entry
   pub comes : ComesTo old.view (record old.view { taker = caller_drawn entry old.view.taker; found = None }) new.view
 
-module _ {S L P : Type 0} (words : LayoutWords S L P) (sys : SysSeen L) where
+module _ {S L P O R : Type 0} (words : LayoutWords S L P O R) (sys : SysSeen L) where
   -- it has found the lock of that cell with this caller
-  abbrev pub IsHeldBy : ℕ → PassSeen P → PassSeen P → Type 0
+  abbrev pub IsHeldBy : ℕ → PassSeen P O R → PassSeen P O R → Type 0
   IsHeldBy holder old new = HasStepped words sys (protocol.lock (cell_marked old.view)) old (holder + 1) new
 
-  abbrev pub IsMarkAnswer : Marked → Act → PassSeen P → PassSeen P → Type 0
+  abbrev pub IsMarkAnswer : Marked → Act O → PassSeen P O R → PassSeen P O R → Type 0
   IsMarkAnswer marks.Marked act old new = HasMarked act old new
   IsMarkAnswer (marks.Held holder) act old new = IsHeldBy holder old new

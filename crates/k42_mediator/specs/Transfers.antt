@@ -21,25 +21,25 @@ use Rattle.k42_mediator.specs.Entries.{IsNext}
 use Rattle.k42_mediator.specs.Taken.{released}
 
 -- the layout is of the object's kind
-pub record IsOfKind {S L : Type 0} (object_of : L → OneThread S) (declared : List L) (o : ℕ) (layout : L) : Type 0 where
+pub record IsOfKind {S L O R : Type 0} (object_of : L → OneThread S O R) (declared : List L) (o : ℕ) (layout : L) : Type 0 where
   pub declaration : L
   pub declares : slice_get declared o ≡ Some declaration
   pub same : object_of layout ≡ object_of declaration
 
 -- no call is inside a row of the object
-abbrev pub IsVacant : {L : Type 0} → ℕ → Joined L → Type 0
+abbrev pub IsVacant : {L O R : Type 0} → ℕ → Joined L O R → Type 0
 IsVacant o s = (c i : ℕ) → c < many_callers s → IsInside (visitor_at s.phases c).place o i → ⊥
 
 -- the entry of a swap that the pass has done
-abbrev pub IsDoneNext : {P : Type 0} → Act → PassView P → Entry → Type 0
+abbrev pub IsDoneNext : {P O R : Type 0} → Act O → PassView P O R → Entry O R → Type 0
 IsDoneNext act v entry =
     let o = object_swapped v in let i = incarnation_in (word_begun v.last) in
     IsNext v o i (cell_of o (i + 1) 0) act (Swapped (i + 1)) entry
 
 -- the pass has handed the row on, and holds these cells still
-pub record HasHanded {P : Type 0} (act : Act) (tag : ℕ) (cells : List ℕ) (old new : PassSeen P) : Type 0 where
+pub record HasHanded {P O R : Type 0} (act : Act O) (tag : ℕ) (cells : List ℕ) (old new : PassSeen P O R) : Type 0 where
   pub drawer : IsDrawer old new
-  pub entry : Entry
+  pub entry : Entry O R
   pub next : IsDoneNext act old.view entry
   pub knows :
       released cells new.view
@@ -52,9 +52,9 @@ pub record HasHanded {P : Type 0} (act : Act) (tag : ℕ) (cells : List ℕ) (ol
   pub log : Extends old.view.log new.view.log
 
 -- the pass has handed the row on, and has drawn that
-pub record HasDone {P : Type 0} (act : Act) (tag : ℕ) (old new : PassSeen P) : Type 0 where
+pub record HasDone {P O R : Type 0} (act : Act O) (tag : ℕ) (old new : PassSeen P O R) : Type 0 where
   pub drawer : IsDrawer old new
-  pub entry : Entry
+  pub entry : Entry O R
   pub next : IsDoneNext act old.view entry
   pub comes :
       ComesTo old.view
@@ -62,6 +62,6 @@ pub record HasDone {P : Type 0} (act : Act) (tag : ℕ) (old new : PassSeen P) :
       new.view
 
 -- the pass has what it had
-pub record HasKept {P : Type 0} (old new : PassSeen P) : Type 0 where
+pub record HasKept {P O R : Type 0} (old new : PassSeen P O R) : Type 0 where
   pub same : IsSamePass old new
   pub comes : ComesTo old.view old.view new.view

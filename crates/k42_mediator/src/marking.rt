@@ -13,7 +13,7 @@ use k42_kinds::{Act, Answer, Layout};
 use k42_rule::{Pass, Sys, draw_mark, layouts_are_lawful, lock, take};
 
 /// What the word of an object answers that is over.
-fn answer_over(word: u64) -> Answer
+fn answer_over<R>(word: u64) -> Answer<R>
     requires { is_over_in word ≡ true }
     ensures { answer_in word ≡ Some result }
 {
@@ -26,7 +26,7 @@ fn answer_over(word: u64) -> Answer
 
 /// Draws, at the first cell of the present row, what the last `begin` of the pass answered. Where another caller has
 /// that cell, the pass may try again.
-pub fn mark<L: Layout>(sys: &Sys<L>, pass: &mut Pass<L>, act: Act) -> Marked
+pub fn mark<L: Layout>(sys: &Sys<L>, pass: &mut Pass<L>, act: Act<L::Op>) -> Marked
     requires ours { IsPassOf sys.now pass.old }
     requires may { MayMark act pass.old.view }
     requires room { HasRoom pass.old }

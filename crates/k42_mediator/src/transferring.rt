@@ -75,7 +75,8 @@ pub fn transfer<L: Layout>(
     requires known { L.tag_of to.now ≤ 2 }
     requires room { HasRoom pass.old }
     requires few { length pass.old.view.taker.mine < PASS_ENTRIES }
-    ensures left { (v : PassView L.Part) → v.visitor ≡ pass.old.view.visitor → Always (layouts_in L.Layout sys.now) sys.now.layouts pass.old.seat v (IsVacant (object_swapped pass.old.view)) }
+    ensures left { (v : PassView L.Part L.Op L.Reply) → v.visitor ≡ pass.old.view.visitor
+        → Always (layouts_in L.Layout sys.now) sys.now.layouts pass.old.seat v (IsVacant (object_swapped pass.old.view)) }
     ensures done { OnOk result (HasDone (L.act_of to.now) (L.tag_of to.now) pass.old pass.new) }
     ensures memory { OnErr result (HasKept pass.old pass.new) }
 {

@@ -29,14 +29,14 @@ held_back : (n : ℕ) (held : List ℕ) → holds_none held ≡ true → filter 
 held_back n [] none = let same = eq-eqb n n refl in rw same refl
 held_back n (m ∷ held) none = absurd (cc)
 
-taker_back : (n : ℕ) (x : Caller) → holds_none x.held ≡ true → caller_unlocked n (caller_locked n x) ≡ x
+taker_back : {O R : Type 0} (n : ℕ) (x : Caller O R) → holds_none x.held ≡ true → caller_unlocked n (caller_locked n x) ≡ x
 taker_back n x none = ap (λ held. record x { held = held }) (held_back n x.held none)
 
 neither : (a b : Bool) → a || b ≡ false → (a ≡ false) × (b ≡ false)
 neither true b e = absurd (cc)
 neither false b e = (refl, e)
 
-notes_back : {P : Type 0} (n : ℕ) (notes : List (Note P)) → names (cells_noted notes) n ≡ false → without n notes ≡ notes
+notes_back : {P O R : Type 0} (n : ℕ) (notes : List (Note P O R)) → names (cells_noted notes) n ≡ false → without n notes ≡ notes
 notes_back n [] none = refl
 notes_back n (note ∷ notes) none =
     let parts = neither (eqb note.cell n) (names (cells_noted notes) n) none in
@@ -48,19 +48,19 @@ held_now n (m ∷ held) none = absurd (cc)
 
 module _ {P : Type 0} where
   -- what the pass knows after each of the steps
-  abbrev pub locking : (n found : ℕ) → PassView P → PassView P
+  abbrev pub locking : {O R : Type 0} (n found : ℕ) → PassView P O R → PassView P O R
   locking n found v = took steps.Lock (lock_word n) found (locked_view n found v)
 
-  abbrev pub taking : ℕ → Content P → PassView P → PassView P
+  abbrev pub taking : {O R : Type 0} → ℕ → Content P O R → PassView P O R → PassView P O R
   taking n content v = gave_back (lock_word n) (took steps.Lift (lock_word n) 0 (lifted_view content v))
 
-  abbrev pub putting : ℕ → Content P → PassView P → PassView P
+  abbrev pub putting : {O R : Type 0} → ℕ → Content P O R → PassView P O R → PassView P O R
   putting n content v = logs (put_at (lock_word n) (is_some content.part)) (put_view n (took steps.Reach (lock_word n) 0 (reaching_view n v)))
 
-  abbrev pub unlocking : ℕ → PassView P → PassView P
+  abbrev pub unlocking : {O R : Type 0} → ℕ → PassView P O R → PassView P O R
   unlocking n v = took steps.Unlock (lock_word n) 0 (unlocked_view n v)
 
-  module _ (n found : ℕ) (v w x y : PassView P) (content emptied : Content P) (none : holds_none v.taker.held ≡ true) (free : found ≡ 0)
+  module _ {O R : Type 0} (n found : ℕ) (v w x y : PassView P O R) (content emptied : Content P O R) (none : holds_none v.taker.held ≡ true) (free : found ≡ 0)
       (unnoted : names (cells_noted v.notes) n ≡ false) (number : content.number ≡ n) (locked : w ≡ locking n found v) (taken : x ≡ taking n content w)
       (put : y ≡ putting n emptied x) where
     notes : without n (noted content ∷ v.notes) ≡ v.notes
@@ -79,27 +79,27 @@ module _ {P : Type 0} where
         })
 
     -- the pass that has locked, taken, put back and unlocked a cell knows what it knew, and has taken these steps
-    pub cell_back : (z : PassView P) → emptied ≡ record content { part = None } → z ≡ unlocking n y → z ≡ emptied_view n v
+    pub cell_back : (z : PassView P O R) → emptied ≡ record content { part = None } → z ≡ unlocking n y → z ≡ emptied_view n v
     cell_back z same unlocked =
         unlocked
-        ∙ ap (unlocking n) (is_put ∙ ap (λ (c : Content P). putting n c (taking n content (locking n 0 v))) same)
+        ∙ ap (unlocking n) (is_put ∙ ap (λ (c : Content P O R). putting n c (taking n content (locking n 0 v))) same)
         ∙ ap
-        (λ (t : Caller). record v { taker = t; notes = without n (noted content ∷ v.notes); out = None; log = steps_emptying n ++ v.log })
+        (λ (t : Caller O R). record v { taker = t; notes = without n (noted content ∷ v.notes); out = None; log = steps_emptying n ++ v.log })
         (taker_back n v.taker none)
         ∙ ap (λ notes. record v { notes = notes; out = None; log = steps_emptying n ++ v.log }) notes
 
   -- the first so many cells of a row are emptied
-  pub record IsEmptiedTo (p o row : ℕ) (v w : PassView P) : Type 0 where
+  pub record IsEmptiedTo {O R : Type 0} (p o row : ℕ) (v w : PassView P O R) : Type 0 where
     pub knows : w ≡ record v { out = w.out; log = steps_emptying_row o row p ++ v.log }
     pub out : 0 < p → w.out ≡ None
 
-  pub emptied_none : (o row : ℕ) (v : PassView P) → IsEmptiedTo 0 o row v v
+  pub emptied_none : {O R : Type 0} (o row : ℕ) (v : PassView P O R) → IsEmptiedTo 0 o row v v
   emptied_none o row v = record { knows = refl; out = λ lt. absurd (omega (arith, lt)) }
 
-  pub emptied_next : (p o row : ℕ) (v w x : PassView P) → IsEmptiedTo p o row v w → x ≡ emptied_view (cell_of o row p) w → IsEmptiedTo (p + 1) o row v x
-  emptied_next p o row v w x is emptied =
+  pub emptied_next : {O R : Type 0} (p o row : ℕ) (v w x : PassView P O R) → IsEmptiedTo p o row v w → x ≡ emptied_view (cell_of o row p) w → IsEmptiedTo (p + 1) o row v x
+  emptied_next {O} {R} p o row v w x is emptied =
       let next : suc p ≡ p + 1 = omega arith in
-      let given : x.out ≡ None = ap (λ (u : PassView P). u.out) emptied in
+      let given : x.out ≡ None = ap (λ (u : PassView P O R). u.out) emptied in
       subst (λ m. IsEmptiedTo m o row v x) next
       (record {
         knows =
@@ -108,28 +108,28 @@ module _ {P : Type 0} where
         out = λ lt. given;
       })
 
-  pub emptied_all : (procs o row : ℕ) (v w : PassView P) → 0 < procs → IsEmptiedTo procs o row v w → w ≡ row_emptied_view procs o row v
+  pub emptied_all : {O R : Type 0} (procs o row : ℕ) (v w : PassView P O R) → 0 < procs → IsEmptiedTo procs o row v w → w ≡ row_emptied_view procs o row v
   emptied_all procs o row v w some is =
       is.knows ∙ ap (λ out. record v { out = out; log = steps_emptying_row o row procs ++ v.log }) (is.out some)
 
-  pub emptied_still : {L : Type 0} (sys : SysSeen L) (n : ℕ) (old new : PassSeen P) → IsPassOf sys old → IsSamePass old new → new.view ≡ emptied_view n old.view
+  pub emptied_still : {L O R : Type 0} (sys : SysSeen L) (n : ℕ) (old new : PassSeen P O R) → IsPassOf sys old → IsSamePass old new → new.view ≡ emptied_view n old.view
       → IsPassOf sys new
-  emptied_still sys n old new is same knows = record {
+  emptied_still {O} {R} sys n old new is same knows = record {
     table = same.table ∙ is.table;
-    proc = subst (λ n. n < sys.procs) (sym (ap (λ (v : PassView P). v.turn.proc) knows)) is.proc;
-    waits = ap (λ (v : PassView P). length v.turn.waits) knows ∙ is.waits;
-    objects = ap (λ (v : PassView P). length v.visitor.noted) knows ∙ is.objects;
-    spans = ap (λ (v : PassView P). length v.visitor.freeing) knows ∙ is.spans;
+    proc = subst (λ n. n < sys.procs) (sym (ap (λ (v : PassView P O R). v.turn.proc) knows)) is.proc;
+    waits = ap (λ (v : PassView P O R). length v.turn.waits) knows ∙ is.waits;
+    objects = ap (λ (v : PassView P O R). length v.visitor.noted) knows ∙ is.objects;
+    spans = ap (λ (v : PassView P O R). length v.visitor.freeing) knows ∙ is.spans;
     queue = same.queue ∙ is.queue;
     keep = (λ i. (same.keep i).what) ∙ is.keep;
   }
 
-module _ {S L P : Type 0} (F : Layouts S L P) (laws : AreLaws F) (declared : List L) (id : ℕ) where
-  pub may_put_empty : (n o i p found : ℕ) (v w x : PassView P) (content emptied : Content P) → n ≡ cell_of o i p → content.number ≡ n → n < CELLS
+module _ {S L P O R : Type 0} (F : Layouts S L P O R) (laws : AreLaws F) (declared : List L) (id : ℕ) where
+  pub may_put_empty : (n o i p found : ℕ) (v w x : PassView P O R) (content emptied : Content P O R) → n ≡ cell_of o i p → content.number ≡ n → n < CELLS
       → p < F.procs → is_freeing v.visitor.freeing o i ≡ true → w ≡ locking n found v → x ≡ taking n content w
       → emptied ≡ record content { part = None } → MayPut F declared id n emptied x
   may_put_empty n o i p found v w x content emptied at number few there freed locked taken same =
-      let spans : x.visitor.freeing ≡ v.visitor.freeing = ap (λ (u : PassView P). u.visitor.freeing) (taken ∙ ap (taking n content) locked) in
+      let spans : x.visitor.freeing ≡ v.visitor.freeing = ap (λ (u : PassView P O R). u.visitor.freeing) (taken ∙ ap (taking n content) locked) in
       let none : Always F declared id x (λ s. IsPart F declared s n None) =
       freed_always F laws declared id x n
       (record { object = o; row = i; place = p; cell = at; there = there; freed = ap (λ spans. is_freeing spans o i) spans ∙ freed }) in
@@ -137,10 +137,10 @@ module _ {S L P : Type 0} (F : Layouts S L P) (laws : AreLaws F) (declared : Lis
         cell = few;
         place = 0;
         note = noted content;
-        noted = ap (λ (u : PassView P). slice_get u.notes 0) taken;
+        noted = ap (λ (u : PassView P O R). slice_get u.notes 0) taken;
         named = number;
         whole =
-            subst (λ (c : Content P). IsCell n (noted content).history (noted content).closed c.part c) (sym same)
+            subst (λ (c : Content P O R). IsCell n (noted content).history (noted content).closed c.part c) (sym same)
             (record { number = number; told = refl; part = refl });
-        part = subst (λ (c : Content P). Always F declared id x (λ s. IsPart F declared s n c.part)) (sym same) none;
+        part = subst (λ (c : Content P O R). Always F declared id x (λ s. IsPart F declared s n c.part)) (sym same) none;
       }

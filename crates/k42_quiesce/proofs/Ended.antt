@@ -29,7 +29,7 @@ active_there s c generation active = by_test (ltb c (length s.callers)) refl whe
       let none = get_or_past s.callers c (record { proc = 0; active = None; grace = Idle; coming = None; waits = [] }) (ltb-false c (length s.callers) e) in
       absurd (let idle : (caller_at s c).active ≡ None = ap (λ (x : Caller). x.active) none in cc)
 
-module _ {S L P : Type 0} (F : Layouts S L P) (declared : List L) (id : ℕ) (v : PassView P) where
+module _ {S L P O R : Type 0} (F : Layouts S L P O R) (declared : List L) (id : ℕ) (v : PassView P O R) where
   pub quiet_always : (base : ℕ) → v.turn.grace ≡ Quiet → v.base ≡ Some base → Always F declared id v (HaveEnded base)
   quiet_always base quiet found table r at c generation active =
       let s = r.state.phases.turns in

@@ -20,7 +20,7 @@ front zero (suc h) (x ∷ xs) ys e = absurd (cc)
 front (suc g) zero (x ∷ xs) ys e = absurd (cc)
 front (suc g) (suc h) (x ∷ xs) ys e = ap (λ l. x ∷ l) (front g h xs ys (ap (drop 1) e))
 
-pub handed_none : {P : Type 0} (old : PassSeen P) → HasHandedOver old old
+pub handed_none : {P O R : Type 0} (old : PassSeen P O R) → HasHandedOver old old
 handed_none old = record {
   handed = [];
   rows = sym (append-nil old.view.rows);
@@ -36,12 +36,12 @@ handed_none old = record {
   popped = refl;
 }
 
-module _ {P : Type 0} (old mid new : PassSeen P) (pushed : HasPushed mid new) where
+module _ {P O R : Type 0} (old mid new : PassSeen P O R) (pushed : HasPushed mid new) where
   handed_next : HasHandedOver old mid → 0 < length mid.view.rows → HasHandedOver old new
   handed_next is some =
       let row : Row = newest mid.view.rows in
       let parts : mid.view.rows ≡ older mid.view.rows ++ row ∷ [] = parts_of mid.view.rows some in
-      let left : new.view.rows ≡ older mid.view.rows = ap (λ (v : PassView P). v.rows) pushed.knows in
+      let left : new.view.rows ≡ older mid.view.rows = ap (λ (v : PassView P O R). v.rows) pushed.knows in
       record {
         handed = is.handed ++ row ∷ [];
         rows =
@@ -50,13 +50,13 @@ module _ {P : Type 0} (old mid new : PassSeen P) (pushed : HasPushed mid new) wh
             ∙ (λ j. sym left j ++ sym (reverse-append is.handed (row ∷ [])) j);
         pushed = pushed.pushed ∙ ap (λ xs. xs ++ row ∷ []) is.pushed ∙ append_assoc old.pushed is.handed (row ∷ []);
         knows =
-            pushed.knows ∙ ap (λ (v : PassView P). without_newest v) is.knows
+            pushed.knows ∙ ap (λ (v : PassView P O R). without_newest v) is.knows
             ∙ (λ j. record old.view {
               rows = sym left j;
-              granted = sym (ap (λ (v : PassView P). v.granted) pushed.knows) j;
+              granted = sym (ap (λ (v : PassView P O R). v.granted) pushed.knows) j;
             });
         granted =
-            (λ j. take (ap (λ (v : PassView P). v.granted) pushed.knows j) (left j)) ∙ take_min mid.view.granted (older mid.view.rows)
+            (λ j. take (ap (λ (v : PassView P O R). v.granted) pushed.knows j) (left j)) ∙ take_min mid.view.granted (older mid.view.rows)
             ∙ front mid.view.granted old.view.granted (older mid.view.rows) (row ∷ [])
             (subst (λ xs. take mid.view.granted xs ≡ take old.view.granted xs) parts is.granted)
             ∙ ap (take old.view.granted) (sym left);
@@ -76,10 +76,10 @@ module _ {P : Type 0} (old mid new : PassSeen P) (pushed : HasPushed mid new) wh
   handed_one sys ours is some = (
     record {
       table = pushed.table ∙ ours.table;
-      proc = subst (λ n. n < sys.procs) (sym (ap (λ (v : PassView P). v.turn.proc) pushed.knows)) ours.proc;
-      waits = ap (λ (v : PassView P). length v.turn.waits) pushed.knows ∙ ours.waits;
-      objects = ap (λ (v : PassView P). length v.visitor.noted) pushed.knows ∙ ours.objects;
-      spans = ap (λ (v : PassView P). length v.visitor.freeing) pushed.knows ∙ ours.spans;
+      proc = subst (λ n. n < sys.procs) (sym (ap (λ (v : PassView P O R). v.turn.proc) pushed.knows)) ours.proc;
+      waits = ap (λ (v : PassView P O R). length v.turn.waits) pushed.knows ∙ ours.waits;
+      objects = ap (λ (v : PassView P O R). length v.visitor.noted) pushed.knows ∙ ours.objects;
+      spans = ap (λ (v : PassView P O R). length v.visitor.freeing) pushed.knows ∙ ours.spans;
       queue = pushed.queue ∙ ours.queue;
       keep = (λ i. (pushed.keep i).what) ∙ ours.keep;
     },

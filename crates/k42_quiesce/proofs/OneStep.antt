@@ -23,19 +23,19 @@ not_none (Some c) some none = absurd (cc)
 
 module _ {P : Type 0} where
   -- the pass has the role, and looks at the processors
-  pub record HasRole (holder : Option ℕ) (v w : PassView P) : Type 0 where
+  pub record HasRole {O R : Type 0} (holder : Option ℕ) (v w : PassView P O R) : Type 0 where
     pub goes : GoesOn (with_role holder v) w
     pub looking : is_looking w.turn.grace ≡ true
 
-  pub role_begun : (holder : Option ℕ) (v w : PassView P) → holder ≡ None → GoesOn (with_role None v) w → is_looking w.turn.grace ≡ true
+  pub role_begun : {O R : Type 0} (holder : Option ℕ) (v w : PassView P O R) → holder ≡ None → GoesOn (with_role None v) w → is_looking w.turn.grace ≡ true
       → HasRole holder v w
   role_begun holder v w none goes looking = subst (λ h. HasRole h v w) (sym none) (record { goes = goes; looking = looking })
 
-  pub role_kept : (holder : Option ℕ) (v : PassView P) → is_some holder ≡ true → MayStep holder v → HasRole holder v v
+  pub role_kept : {O R : Type 0} (holder : Option ℕ) (v : PassView P O R) → is_some holder ≡ true → MayStep holder v → HasRole holder v v
   role_kept None v some may = absurd (cc)
   role_kept (Some c) v some may = record { goes = goes_nowhere v (looks_not_quiet v.turn.grace may.looking); looking = may.looking }
 
-  module _ (holder : Option ℕ) (v w x : PassView P) (has : HasRole holder v w) where
+  module _ {O R : Type 0} (holder : Option ℕ) (v w x : PassView P O R) (has : HasRole holder v w) where
     pub role_goes : GoesOn w x → GoesOn (with_role holder v) x
     role_goes goes = goes_through (with_role holder v) w x has.goes (looks_not_quiet w.turn.grace has.looking) goes
 

@@ -30,12 +30,12 @@ use Rattle.k42_quiesce.proofs.TurnsOfEvents.{turns_of, turns_after, turns_run, i
 occurs_in : (e : GenEvent) (events : List GenEvent) (s : Generations) → Occurs e events s → In e events
 occurs_in e events s is = subst (λ (es : List GenEvent). In e es) (sym is.split) (in_right e is.before (e ∷ is.after) (inl refl))
 
-module _ {S L P : Type 0} (F : Layouts S L P) (laws : AreLaws F) (declared : List L) (s t : Joined L) (sound : IsSound F declared s)
-    (c : ℕ) (notes : List (ℕ × ℕ)) (events : List (Event L)) (grace : IsGrace F declared s t c notes events) where
+module _ {S L P O R : Type 0} (F : Layouts S L P O R) (laws : AreLaws F) (declared : List L) (s t : Joined L O R) (sound : IsSound F declared s)
+    (c : ℕ) (notes : List (ℕ × ℕ)) (events : List (Event L O R)) (grace : IsGrace F declared s t c notes events) where
   abbrev g : Generations
   g = s.phases.turns
 
-  abbrev u : Joined L
+  abbrev u : Joined L O R
   u = effect s (AtPhases (TakeRoleWith c notes))
 
   may : gens.is_possible g (TakeRole c) ≡ true

@@ -29,7 +29,7 @@ noted_there noted o n e = by_test (ltb o (length noted)) refl where
   by_test false is =
       let none : note_at noted o ≡ None = get_or_past noted o None (ltb-false o (length noted) is) in absurd (cc)
 
-module _ {S L P : Type 0} (F : Layouts S L P) (declared : List L) (id : ℕ) (w : PassView P) where
+module _ {S L P O R : Type 0} (F : Layouts S L P O R) (declared : List L) (id : ℕ) (w : PassView P O R) where
   module _ (noted : List (Option ℕ)) (same : w.visitor.noted ≡ noted)
       (swept : (o : ℕ) → o < length noted → is_some (note_at noted o) ≡ true → has_swept w.log o ≡ true) where
     pub marks_always : Always F declared id w (AreFreed noted)

@@ -12,15 +12,15 @@ use Rattle.k42_board.specs.declared.view.StepName.TheVariants as steps
 use Rattle.k42_board.specs.declared.view.Taken.{Taken}
 use Rattle.k42_quiesce.specs.Reclaiming.{Frees, Sweeps, steps_emptying_row, row_emptied_view}
 
-pub swept_still : {L P : Type 0} (sys : SysSeen L) (procs o count : ℕ) (old new : PassSeen P) → IsPassOf sys old → IsSamePass old new
+pub swept_still : {L P O R : Type 0} (sys : SysSeen L) (procs o count : ℕ) (old new : PassSeen P O R) → IsPassOf sys old → IsSamePass old new
     → Sweeps procs o count old.view new.view → IsPassOf sys new
-swept_still {L} {P} sys procs o count old new is same sweeps =
+swept_still {L} {P} {O} {R} sys procs o count old new is same sweeps =
     let rest = sweeps.rest in
     record {
       table = same.table ∙ is.table;
-      proc = subst (λ n. n < sys.procs) (sym (ap (λ (v : PassView P). v.turn.proc) rest)) is.proc;
-      waits = ap (λ (v : PassView P). length v.turn.waits) rest ∙ is.waits;
-      objects = ap (λ (v : PassView P). length v.visitor.noted) rest ∙ is.objects;
+      proc = subst (λ n. n < sys.procs) (sym (ap (λ (v : PassView P O R). v.turn.proc) rest)) is.proc;
+      waits = ap (λ (v : PassView P O R). length v.turn.waits) rest ∙ is.waits;
+      objects = ap (λ (v : PassView P O R). length v.visitor.noted) rest ∙ is.objects;
       spans = sweeps.spans ∙ is.spans;
       queue = same.queue ∙ is.queue;
       keep = (λ i. (same.keep i).what) ∙ is.keep;
@@ -35,7 +35,7 @@ swept_emptying o row zero q log = refl
 swept_emptying o row (suc p) q log = swept_emptying o row p q log
 
 -- nothing was noted
-pub sweeps_none : {P : Type 0} (procs o : ℕ) (v : PassView P) → note_at v.visitor.noted o ≡ None → Sweeps procs o 0 v v
+pub sweeps_none : {P O R : Type 0} (procs o : ℕ) (v : PassView P O R) → note_at v.visitor.noted o ≡ None → Sweeps procs o 0 v v
 sweeps_none procs o v none = record {
   frees = subst (λ note. Frees procs o note 0 v.log v.log) (sym none) (refl, refl);
   spans = refl;
@@ -44,17 +44,17 @@ sweeps_none procs o v none = record {
   rest = refl;
 }
 
-module _ {P : Type 0} (procs o found number : ℕ) (v w : PassView P) (noted : note_at v.visitor.noted o ≡ Some number)
+module _ {P O R : Type 0} (procs o found number : ℕ) (v w : PassView P O R) (noted : note_at v.visitor.noted o ≡ Some number)
     (view : w ≡ took steps.Free (freed_word o) found (freed_view o found v)) where
   abbrev free_step : Taken
   free_step = step_at steps.Free (freed_word o) found
 
-  abbrev KeepsRest : PassView P → Type 0
+  abbrev KeepsRest : PassView P O R → Type 0
   KeepsRest u =
       (u ≡ record v { visitor = record v.visitor { freeing = u.visitor.freeing }; log = u.log; out = u.out })
       × (length u.visitor.freeing ≡ length v.visitor.freeing)
 
-  abbrev freed_by : Bool → PassView P
+  abbrev freed_by : Bool → PassView P O R
   freed_by b = took steps.Free (freed_word o) found (record v {
     visitor = cond b (record v.visitor { freeing = slice_set v.visitor.freeing o (found, number_noted v o) }) v.visitor;
   })
@@ -67,11 +67,11 @@ module _ {P : Type 0} (procs o found number : ℕ) (v w : PassView P) (noted : n
 
   swept_here : has_swept w.log o ≡ true
   swept_here =
-      ap (λ (u : PassView P). has_swept u.log o) view
+      ap (λ (u : PassView P O R). has_swept u.log o) view
       ∙ or_left (eqb (freed_object (freed_word o)) o) (has_swept v.log o) (eq-eqb (freed_object (freed_word o)) o (freed_object_is o))
 
   swept_there : (q : ℕ) → has_swept v.log q ≡ true → has_swept w.log q ≡ true
-  swept_there q is = ap (λ (u : PassView P). has_swept u.log q) view ∙ or_right (eqb (freed_object (freed_word o)) q) (has_swept v.log q) is
+  swept_there q is = ap (λ (u : PassView P O R). has_swept u.log q) view ∙ or_right (eqb (freed_object (freed_word o)) q) (has_swept v.log q) is
 
   -- the mark was not below the number
   pub sweeps_past : number ≤ found → Sweeps procs o 0 v w
@@ -85,7 +85,7 @@ module _ {P : Type 0} (procs o found number : ℕ) (v w : PassView P) (noted : n
               one = λ lt. absurd (omega (arith, lt, past));
               counted = sym (ap (λ b. cond b 1 0) test);
               log =
-                  ap (λ (u : PassView P). u.log) view
+                  ap (λ (u : PassView P O R). u.log) view
                   ∙ sym (ap (λ b. (cond b (steps_emptying_row o found procs) [] ++ free_step ∷ []) ++ v.log) test);
             });
         spans = rest_kept.1;
@@ -95,13 +95,13 @@ module _ {P : Type 0} (procs o found number : ℕ) (v w : PassView P) (noted : n
       }
 
   -- it was, and the row is emptied
-  pub sweeps_row : (x : PassView P) → found + 1 ≡ number → x ≡ row_emptied_view procs o found w → Sweeps procs o 1 v x
+  pub sweeps_row : (x : PassView P O R) → found + 1 ≡ number → x ≡ row_emptied_view procs o found w → Sweeps procs o 1 v x
   sweeps_row x one emptied =
       let short : found < number = omega (arith, one) in
       let test : ltb found number ≡ true = lt-ltb found number short in
       let row : List Taken = steps_emptying_row o found procs in
       let same : (q : ℕ) → has_swept x.log q ≡ has_swept w.log q =
-      λ q. ap (λ (u : PassView P). has_swept u.log q) emptied ∙ swept_emptying o found procs q w.log in
+      λ q. ap (λ (u : PassView P O R). has_swept u.log q) emptied ∙ swept_emptying o found procs q w.log in
       record {
         frees =
             subst (λ note. Frees procs o note 1 v.log x.log) (sym noted)
@@ -110,17 +110,17 @@ module _ {P : Type 0} (procs o found number : ℕ) (v w : PassView P) (noted : n
               one = λ lt. one;
               counted = sym (ap (λ b. cond b 1 0) test);
               log =
-                  ap (λ (u : PassView P). u.log) emptied
-                  ∙ ap (λ (log : List Taken). row ++ log) (ap (λ (u : PassView P). u.log) view)
+                  ap (λ (u : PassView P O R). u.log) emptied
+                  ∙ ap (λ (log : List Taken). row ++ log) (ap (λ (u : PassView P O R). u.log) view)
                   ∙ sym (append_assoc row (free_step ∷ []) v.log)
                   ∙ sym (ap (λ b. (cond b (steps_emptying_row o found procs) [] ++ free_step ∷ []) ++ v.log) test);
             });
-        spans = ap (λ (u : PassView P). length u.visitor.freeing) emptied ∙ rest_kept.1;
+        spans = ap (λ (u : PassView P O R). length u.visitor.freeing) emptied ∙ rest_kept.1;
         marked = λ some. same o ∙ swept_here;
         kept = λ q is. same q ∙ swept_there q is;
         rest =
             subst
-            (λ (u : PassView P). u ≡ record v { visitor = record v.visitor { freeing = u.visitor.freeing }; log = u.log; out = u.out })
+            (λ (u : PassView P O R). u ≡ record v { visitor = record v.visitor { freeing = u.visitor.freeing }; log = u.log; out = u.out })
             (sym emptied)
             (ap (row_emptied_view procs o found) rest_kept.0);
       }

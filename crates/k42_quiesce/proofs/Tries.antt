@@ -16,13 +16,13 @@ use Rattle.k42_quiesce.specs.declared.steps.Held.TheVariants.{Left, RoleHeld}
 use Rattle.k42_quiesce.proofs.GoingOn.{goes_through, not_taken}
 use Rattle.k42_quiesce.proofs.PastFlips.{looks_not_quiet}
 
-module _ {S L P : Type 0} (F : Layouts S L P) (declared : List L) (id : ℕ) (first : PassView P) where
+module _ {S L P O R : Type 0} (F : Layouts S L P O R) (declared : List L) (id : ℕ) (first : PassView P O R) where
   -- since the first try it has only tried, or it has taken the role
-  abbrev pub Tried : Option ℕ → PassView P → Type 0
+  abbrev pub Tried : Option ℕ → PassView P O R → Type 0
   Tried None w = (holders : List ℕ) × (w ≡ refused_by holders first)
   Tried (Some holder) w = HasGraced F declared id first w
 
-  pub record IsTried (w : PassView P) (grace : Option ℕ) : Type 0 where
+  pub record IsTried (w : PassView P O R) (grace : Option ℕ) : Type 0 where
     pub may : MayStep grace w
     pub tried : Tried grace w
 
@@ -30,13 +30,13 @@ module _ {S L P : Type 0} (F : Layouts S L P) (declared : List L) (id : ℕ) (fi
   untried grace none may = subst (IsTried first) (sym none) (record { may = may; tried = ([], refl) })
 
   -- with the pass on the same seat
-  module _ (here : ℕ) (seat : here ≡ id) (v w : PassView P) where
+  module _ (here : ℕ) (seat : here ≡ id) (v w : PassView P O R) where
     pub goes_from : (grace : Option ℕ) → IsTried v grace → (grace ≡ None → TakesRole F declared here v) → GoesOn (with_role grace v) w
         → HasGraced F declared id first w
     goes_from None is takes goes = record {
       holders = is.tried.0;
       takes = subst (λ i. TakesRole F declared i (refused_by is.tried.0 first)) seat (subst (TakesRole F declared here) is.tried.1 (takes refl));
-      goes = subst (λ (u : PassView P). GoesOn (with_role None u) w) is.tried.1 goes;
+      goes = subst (λ (u : PassView P O R). GoesOn (with_role None u) w) is.tried.1 goes;
     }
     goes_from (Some holder) is takes goes = record {
       holders = is.tried.holders;
@@ -66,5 +66,5 @@ module _ {S L P : Type 0} (F : Layouts S L P) (declared : List L) (id : ℕ) (fi
         subst (IsTried w) (sym told.2)
         (record {
           may = subst MayTakeRole (sym knows) (record { free = may.free; swap = may.swap; few = may.few });
-          tried = (holder ∷ tried.0, knows ∙ ap (λ (u : PassView P). logs (step_at steps.TakeRole role_word (holder + 1)) u) tried.1);
+          tried = (holder ∷ tried.0, knows ∙ ap (λ (u : PassView P O R). logs (step_at steps.TakeRole role_word (holder + 1)) u) tried.1);
         })

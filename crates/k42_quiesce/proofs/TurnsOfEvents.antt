@@ -32,7 +32,7 @@ turn_of (Turn event) = event ∷ []
 turn_of (TakeRoleWith c notes) = TakeRole c ∷ []
 turn_of event = []
 
-abbrev pub turns_of : {L : Type 0} → List (Event L) → List GenEvent
+abbrev pub turns_of : {L O R : Type 0} → List (Event L O R) → List GenEvent
 turns_of [] = []
 turns_of (AtPhases event ∷ events) = turn_of event ++ turns_of events
 turns_of (event ∷ events) = turns_of events
@@ -95,12 +95,12 @@ in_front (TakeRoleWith c notes) events n lt range = (lt, range)
 in_front event events n lt range = range
 
 -- an event of generations that takes no role stands among the joined events where it stands among theirs
-back_one : {L : Type 0} (e : GenEvent) (event : phases.Event) → ((c : ℕ) → e ≡ TakeRole c → ⊥) → In e (turn_of event) → ◌≡◌ {A = Event L} (AtPhases (Turn e)) (AtPhases event)
+back_one : {L O R : Type 0} (e : GenEvent) (event : phases.Event) → ((c : ℕ) → e ≡ TakeRole c → ⊥) → In e (turn_of event) → ◌≡◌ {A = Event L O R} (AtPhases (Turn e)) (AtPhases event)
 back_one e (Turn event) not is = ⊎_elim (λ (same : e ≡ event). ap (λ x. AtPhases (Turn x)) same) (λ none. absurd none) is
 back_one e (TakeRoleWith c notes) not is = ⊎_elim (λ (same : e ≡ TakeRole c). absurd (not c same)) (λ none. absurd none) is
 back_one e event not is = absurd is
 
-pub back : {L : Type 0} (e : GenEvent) (events : List (Event L)) → ((c : ℕ) → e ≡ TakeRole c → ⊥) → In e (turns_of events) → In (AtPhases (Turn e)) events
+pub back : {L O R : Type 0} (e : GenEvent) (events : List (Event L O R)) → ((c : ℕ) → e ≡ TakeRole c → ⊥) → In e (turns_of events) → In (AtPhases (Turn e)) events
 back e [] not is = absurd is
 back e (AtPhases event ∷ events) not is =
     ⊎_elim {C = In (AtPhases (Turn e)) (AtPhases event ∷ events)}
@@ -109,9 +109,9 @@ back e (AtPhases event ∷ events) not is =
 back e (AtCells event ∷ events) not is = inr (back e events not is)
 back e (HandWith c from onto layout entry ∷ events) not is = inr (back e events not is)
 
-module _ {S L P : Type 0} (F : Layouts S L P) (laws : AreLaws F) (declared : List L) where
-  pub turns_run : (events : List (Event L)) (s t : Joined L) → Leads F declared events s t → t.phases.turns ≡ run (turns_of events) s.phases.turns
-  turns_run [] s t leads = ap (λ (u : Joined L). u.phases.turns) leads
+module _ {S L P O R : Type 0} (F : Layouts S L P O R) (laws : AreLaws F) (declared : List L) where
+  pub turns_run : (events : List (Event L O R)) (s t : Joined L O R) → Leads F declared events s t → t.phases.turns ≡ run (turns_of events) s.phases.turns
+  turns_run [] s t leads = ap (λ (u : Joined L O R). u.phases.turns) leads
   turns_run (AtPhases event ∷ events) s t leads =
       turns_run events (joined.effect s (AtPhases event)) t leads.1
       ∙ ap (run (turns_of events)) (turns_after s.phases event leads.0.may.core)
@@ -119,7 +119,7 @@ module _ {S L P : Type 0} (F : Layouts S L P) (laws : AreLaws F) (declared : Lis
   turns_run (AtCells event ∷ events) s t leads = turns_run events (joined.effect s (AtCells event)) t leads.1
   turns_run (HandWith c from onto layout entry ∷ events) s t leads = turns_run events (joined.effect s (HandWith c from onto layout entry)) t leads.1
 
-  pub in_range : (events : List (Event L)) (s t : Joined L) → IsSound F declared s → Leads F declared events s t
+  pub in_range : (events : List (Event L O R)) (s t : Joined L O R) → IsSound F declared s → Leads F declared events s t
       → AreInRange (length s.phases.turns.callers) (turns_of events)
   in_range [] s t sound leads = tt
   in_range (AtPhases event ∷ events) s t sound leads =

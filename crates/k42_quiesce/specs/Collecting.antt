@@ -4,7 +4,7 @@ use Rattle.k42_board.specs.Seen.{PassSeen}
 use Rattle.k42_board.specs.declared.view.Row.{Row}
 
 -- the pass has pushed the newest ones of its rows, the newest first
-pub record HasHandedOver {P : Type 0} (old new : PassSeen P) : Type 0 where
+pub record HasHandedOver {P O R : Type 0} (old new : PassSeen P O R) : Type 0 where
   pub handed : List Row
   pub rows : old.view.rows ≡ new.view.rows ++ reverse handed
   pub pushed : new.pushed ≡ old.pushed ++ handed
@@ -20,7 +20,7 @@ pub record HasHandedOver {P : Type 0} (old new : PassSeen P) : Type 0 where
   pub popped : new.popped ≡ old.popped
 
 -- the pass has popped these rows, which it now holds as its newest
-pub record HasCollected {P : Type 0} (rows : List Row) (old new : PassSeen P) : Type 0 where
+pub record HasCollected {P O R : Type 0} (rows : List Row) (old new : PassSeen P O R) : Type 0 where
   pub popped : new.popped ≡ old.popped ++ rows
   pub knows : new.view ≡ record old.view { rows = old.view.rows ++ rows }
   pub row_room : new.row_room + length rows ≡ old.row_room

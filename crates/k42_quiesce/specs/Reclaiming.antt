@@ -17,7 +17,7 @@ use Rattle.k42_board.specs.declared.view.StepName.TheVariants as steps
 use Rattle.k42_board.specs.declared.view.Taken.{Taken}
 
 -- it is quiet, and holds no cell
-pub record MayReclaim {P : Type 0} (v : PassView P) : Type 0 where
+pub record MayReclaim {P O R : Type 0} (v : PassView P O R) : Type 0 where
   pub quiet : v.turn.grace ≡ Quiet
   pub free : holds_none v.taker.held ≡ true
 
@@ -25,7 +25,7 @@ pub record MayReclaim {P : Type 0} (v : PassView P) : Type 0 where
 abbrev pub steps_emptying : ℕ → List Taken
 steps_emptying n = steps_through n false ++ step_at steps.Lock (lock_word n) 0 ∷ []
 
-abbrev pub emptied_view : {P : Type 0} → ℕ → PassView P → PassView P
+abbrev pub emptied_view : {P O R : Type 0} → ℕ → PassView P O R → PassView P O R
 emptied_view n v = record v { out = None; log = steps_emptying n ++ v.log }
 
 -- by which the first so many cells of a row are
@@ -33,7 +33,7 @@ abbrev pub steps_emptying_row : (o row : ℕ) → ℕ → List Taken
 steps_emptying_row o row zero = []
 steps_emptying_row o row (suc p) = steps_emptying (cell_of o row p) ++ steps_emptying_row o row p
 
-abbrev pub row_emptied_view : {P : Type 0} → (procs o row : ℕ) → PassView P → PassView P
+abbrev pub row_emptied_view : {P O R : Type 0} → (procs o row : ℕ) → PassView P O R → PassView P O R
 row_emptied_view procs o row v = record v { out = None; log = steps_emptying_row o row procs ++ v.log }
 
 -- By which the rows of an object are freed up to the number that was noted, where its mark is found here: a mark that is
@@ -61,7 +61,7 @@ FreesAll procs noted (suc o) count old new =
     × Frees procs o (note_at noted o) here log new × (count ≡ before + here)
 
 -- what a pass knows after the rows of one object are freed
-pub record Sweeps {P : Type 0} (procs o count : ℕ) (v w : PassView P) : Type 0 where
+pub record Sweeps {P O R : Type 0} (procs o count : ℕ) (v w : PassView P O R) : Type 0 where
   pub frees : Frees procs o (note_at v.visitor.noted o) count v.log w.log
   pub spans : length w.visitor.freeing ≡ length v.visitor.freeing
   pub marked : is_some (note_at v.visitor.noted o) ≡ true → has_swept w.log o ≡ true
@@ -77,17 +77,17 @@ pub record Reclaims (procs many : ℕ) (noted : List (Option ℕ)) (old new : Li
   pub given : new ≡ step_at steps.GiveRole role_word 0 ∷ log
 
 -- the marks are at least the noted numbers
-abbrev pub AreFreed : {L : Type 0} → List (Option ℕ) → Joined L → Type 0
+abbrev pub AreFreed : {L O R : Type 0} → List (Option ℕ) → Joined L O R → Type 0
 AreFreed noted s = (o number : ℕ) → note_at noted o ≡ Some number → number ≤ (object s o).freed
 
 -- the rows are freed
-abbrev pub AreRowsFreed : {L : Type 0} → List Row → Joined L → Type 0
+abbrev pub AreRowsFreed : {L O R : Type 0} → List Row → Joined L O R → Type 0
 AreRowsFreed rows s = EachPlace (λ place row. row.incarnation < (object s row.object).freed) rows
 
 -- of the object that the pass swaps, if it does, all former rows are freed
-abbrev pub IsSwapFreed : {L P : Type 0} → PassView P → Joined L → Type 0
+abbrev pub IsSwapFreed : {L P O R : Type 0} → PassView P O R → Joined L O R → Type 0
 IsSwapFreed v s = (o : ℕ) → v.visitor.swap ≡ Drained o → incarnation s o ≤ (object s o).freed
 
 -- the role is given back, and with it the rows that the pass held as it took the role
-abbrev pub reclaimed_view : {P : Type 0} → PassView P → PassView P → PassView P
+abbrev pub reclaimed_view : {P O R : Type 0} → PassView P O R → PassView P O R → PassView P O R
 reclaimed_view v w = record (given_view v) { log = w.log; out = w.out }

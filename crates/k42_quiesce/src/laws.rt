@@ -22,10 +22,10 @@ use k42_rule::{Sys, layouts_are_lawful};
 /// Each activity that is open in a state in which a pass takes the free role ends before the grace of that pass is
 /// quiet: whatever events of whatever callers lie between the two states, its Leave is one of them.
 pub fn activities_open_at_the_taking_end<L: Layout>(sys: &Sys<L>)
-    ensures { (before after : State (Slot L.Part) (View L.Part))
+    ensures { (before after : State (Slot L.Part L.Op L.Reply) (View L.Part L.Op L.Reply))
         (taking : Rule (layouts_in L.Layout sys.now) sys.now.layouts before)
         (quiet : Rule (layouts_in L.Layout sys.now) sys.now.layouts after)
-        (holder : ℕ) (notes : List (ℕ × ℕ)) (events : List (Event L))
+        (holder : ℕ) (notes : List (ℕ × ℕ)) (events : List (Event L L.Op L.Reply))
         → IsGrace (layouts_in L.Layout sys.now) sys.now.layouts
         taking.state quiet.state holder notes events
         → (caller generation : ℕ) → IsActiveIn taking.state caller generation → Leaves caller events }
@@ -35,7 +35,7 @@ pub fn activities_open_at_the_taking_end<L: Layout>(sys: &Sys<L>)
 
 /// While the grace of a pass is quiet, no activity is under way but those that began after it flipped their processor.
 pub fn quiet_activities_are_younger<L: Layout>(sys: &Sys<L>)
-    ensures { (id : ℕ) (v : PassView L.Part) (base : ℕ) → v.turn.grace ≡ Quiet → v.base ≡ Some base → Always
+    ensures { (id : ℕ) (v : PassView L.Part L.Op L.Reply) (base : ℕ) → v.turn.grace ≡ Quiet → v.base ≡ Some base → Always
         (layouts_in L.Layout sys.now)
         sys.now.layouts id v (HaveEnded base) }
 {

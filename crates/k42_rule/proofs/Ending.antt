@@ -38,26 +38,26 @@ none_is : {A : Type 0} (x : Option A) → is_none x ≡ true → x ≡ None
 none_is None e = refl
 none_is (Some a) e = absurd (cc)
 
-rests_at : {P : Type 0} (v : PassView P) → is_at_rest v ≡ true → (v.turn.active ≡ None) × (is_idle v.visitor.swap ≡ true)
+rests_at : {P O R : Type 0} (v : PassView P O R) → is_at_rest v ≡ true → (v.turn.active ≡ None) × (is_idle v.visitor.swap ≡ true)
 rests_at v e =
     let parts = and_parts (is_none v.turn.active && graces.is_idle v.turn.grace) (is_idle v.visitor.swap) e in
     (none_is v.turn.active (and_parts (is_none v.turn.active) (graces.is_idle v.turn.grace) parts.0).0, parts.1)
 
 -- passes that each have a seat in the state
-module _ {S L P : Type 0} (F : Layouts S L P) (declared : List L) (sys : SysSeen L) (passes : List (PassSeen P)) (rest : AreAtRest sys passes)
-    (table : State (Slot P) (View P)) (ruled : Ruled F declared (length sys.callers) table)
-    (known : (c : ℕ) (pass : PassSeen P) → slice_get passes c ≡ Some pass → (id : ℕ) × KnowsPass F.tag_of ruled.rule.state ruled.rule.beside id pass.view) where
-  abbrev s : Joined L
+module _ {S L P O R : Type 0} (F : Layouts S L P O R) (declared : List L) (sys : SysSeen L) (passes : List (PassSeen P O R)) (rest : AreAtRest sys passes)
+    (table : State (Slot P O R) (View P O R)) (ruled : Ruled F declared (length sys.callers) table)
+    (known : (c : ℕ) (pass : PassSeen P O R) → slice_get passes c ≡ Some pass → (id : ℕ) × KnowsPass F.tag_of ruled.rule.state ruled.rule.beside id pass.view) where
+  abbrev s : Joined L O R
   s = ruled.rule.state
 
-  pass_at : (c : ℕ) → c < length passes → (pass : PassSeen P) × (slice_get passes c ≡ Some pass)
+  pass_at : (c : ℕ) → c < length passes → (pass : PassSeen P O R) × (slice_get passes c ≡ Some pass)
   pass_at c lt = there_is passes c lt
 
-  mine_is : (c : ℕ) (pass : PassSeen P) → slice_get passes c ≡ Some pass → mine s c ≡ pass.view.taker.mine
+  mine_is : (c : ℕ) (pass : PassSeen P O R) → slice_get passes c ≡ Some pass → mine s c ≡ pass.view.taker.mine
   mine_is c pass e =
-      ap (λ d. mine s d) (sym (rest.each c pass e).number) ∙ ap (λ (x : Caller). x.mine) (known c pass e).1.cells.taker
+      ap (λ d. mine s d) (sym (rest.each c pass e).number) ∙ ap (λ (x : Caller O R). x.mine) (known c pass e).1.cells.taker
 
-  resting_at : (c : ℕ) (pass : PassSeen P) → slice_get passes c ≡ Some pass → IsResting s c
+  resting_at : (c : ℕ) (pass : PassSeen P O R) → slice_get passes c ≡ Some pass → IsResting s c
   resting_at c pass e = subst (IsResting s) (rest.each c pass e).number resting where
     k : KnowsPass F.tag_of s ruled.rule.beside (known c pass e).0 pass.view
     k = (known c pass e).1
@@ -80,13 +80,13 @@ module _ {S L P : Type 0} (F : Layouts S L P) (declared : List L) (sys : SysSeen
       ext_get_or [] (lists_in passes) (lists_of s)
       (length-map passes _ ∙ sym many_lists ∙ sym (length-map s.turns.callers _))
       (λ c lt.
-      let pass = pass_at c (let long = length-map passes (λ (p : PassSeen P). p.view.taker.mine) in omega (arith, lt, long)) in
+      let pass = pass_at c (let long = length-map passes (λ (p : PassSeen P O R). p.view.taker.mine) in omega (arith, lt, long)) in
       get_or_from_slice_get (lists_in passes) c pass.0.view.taker.mine []
-      (slice_get-map (λ (p : PassSeen P). p.view.taker.mine) passes c ∙ ap (option_map (λ (p : PassSeen P). p.view.taker.mine)) pass.1)
+      (slice_get-map (λ (p : PassSeen P O R). p.view.taker.mine) passes c ∙ ap (option_map (λ (p : PassSeen P O R). p.view.taker.mine)) pass.1)
       ∙ sym (mine_is c pass.0 pass.1)
-      ∙ sym (get_or-map (λ (x : Caller). x.mine) s.turns.callers c turns.fresh_caller))
+      ∙ sym (get_or-map (λ (x : Caller O R). x.mine) s.turns.callers c turns.fresh_caller))
 
-  known_last : (lists : List (List Entry)) → lists ≡ lists_in passes → AreLastLists F declared (length sys.callers) lists
+  known_last : (lists : List (List (Entry O R))) → lists ≡ lists_in passes → AreLastLists F declared (length sys.callers) lists
   known_last lists is = record {
     state = s;
     sound = ruled.rule.sound;
@@ -95,20 +95,20 @@ module _ {S L P : Type 0} (F : Layouts S L P) (declared : List L) (sys : SysSeen
     resting = λ c lt. let pass = pass_at c (let many = rest.many in omega (arith, lt, many)) in resting_at c pass.0 pass.1;
   }
 
-module _ {S L P : Type 0} (F : Layouts S L P) (declared : List L) (sys : SysSeen L) (passes : List (PassSeen P)) (rest : AreAtRest sys passes) where
+module _ {S L P O R : Type 0} (F : Layouts S L P O R) (declared : List L) (sys : SysSeen L) (passes : List (PassSeen P O R)) (rest : AreAtRest sys passes) where
   -- all at one seat, as they end
-  pub are_last : (id : ℕ) (table : State (Slot P) (View P)) → Seen (Ruled F declared (length sys.callers)) id (Crew (views_of passes)) table
-      → (lists : List (List Entry)) → lists ≡ lists_in passes → AreLastLists F declared (length sys.callers) lists
+  pub are_last : (id : ℕ) (table : State (Slot P O R) (View P O R)) → Seen (Ruled F declared (length sys.callers)) id (Crew (views_of passes)) table
+      → (lists : List (List (Entry O R))) → lists ≡ lists_in passes → AreLastLists F declared (length sys.callers) lists
   are_last id table seen =
       known_last F declared sys passes rest table seen.0
       (λ c pass e. (
         id,
         (seen.0.rule.seats id (Crew (views_of passes)) seen.1).1 c pass.view
-            (slice_get-map (λ (p : PassSeen P). p.view) passes c ∙ ap (option_map (λ (p : PassSeen P). p.view)) e),
+            (slice_get-map (λ (p : PassSeen P O R). p.view) passes c ∙ ap (option_map (λ (p : PassSeen P O R). p.view)) e),
       ))
 
   -- each at its own, as they go on
-  pub last_seated : (table : State (Slot P) (View P)) → Ruled F declared (length sys.callers) table
+  pub last_seated : (table : State (Slot P O R) (View P O R)) → Ruled F declared (length sys.callers) table
       → EachPlace (λ c pass. get_elem? table.views pass.seat ≡ some (Crew (pass.view ∷ []))) passes → AreLastLists F declared (length sys.callers) (lists_in passes)
   last_seated table ruled shown =
       known_last F declared sys passes rest table ruled
@@ -119,10 +119,10 @@ pub first_removed : {A : Type 0} (xs : List A) (a : A) (rest : List A) → 0 < l
 first_removed [] a rest more first is = absurd (omega arith)
 first_removed (x ∷ xs) a rest more first is = λ i. sym first i ∷ sym is i
 
-pub all_views : {P : Type 0} (passes rest : List (PassSeen P)) (pass : PassSeen P) (own after : Seated P) → passes ≡ pass ∷ rest → IsSeatOf own (pass_in own.0)
+pub all_views : {P O R : Type 0} (passes rest : List (PassSeen P O R)) (pass : PassSeen P O R) (own after : Seated P O R) → passes ≡ pass ∷ rest → IsSeatOf own (pass_in own.0)
     → pass_in own.0 ≡ pass.view → after ≡ (Crew (crew_in own.0 ++ views_of rest), []) → after.0 ≡ Crew (views_of passes)
-all_views {P} passes rest pass own after is seat same now =
-    ap (λ (m : Seated P). m.0) now
-    ∙ ap (λ (m : Seated P). Crew (crew_in m.0 ++ views_of rest)) seat
-    ∙ ap (λ (v : PassView P). Crew (v ∷ views_of rest)) same
-    ∙ ap (λ (l : List (PassSeen P)). Crew (views_of l)) (sym is)
+all_views {P} {O} {R} passes rest pass own after is seat same now =
+    ap (λ (m : Seated P O R). m.0) now
+    ∙ ap (λ (m : Seated P O R). Crew (crew_in m.0 ++ views_of rest)) seat
+    ∙ ap (λ (v : PassView P O R). Crew (v ∷ views_of rest)) same
+    ∙ ap (λ (l : List (PassSeen P O R)). Crew (views_of l)) (sym is)

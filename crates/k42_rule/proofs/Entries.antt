@@ -13,7 +13,7 @@ use Rattle.k42_board.specs.Values.{incarnation_in}
 use Rattle.k42_board.specs.Views.{object_begun, word_begun}
 use Rattle.k42_board.specs.declared.view.PassView.{PassView}
 
-module _ {P : Type 0} (v : PassView P) (own : Own) (own_is : own ≡ own_in v) (act : Act) (answer : Answer) (is : is_call act ≡ false)
+module _ {P O R : Type 0} (v : PassView P O R) (own : Own) (own_is : own ≡ own_in v) (act : Act O) (answer : Answer R) (is : is_call act ≡ false)
     (stamp index object incarnation : ℕ) (indexed : index ≡ own.drawn) (begun : object ≡ object_begun own.last) where
   pub alone_entry : stamp ≡ max own.clock 0 + 1 → incarnation ≡ number_told answer - 1
       → record {
@@ -71,7 +71,7 @@ module _ {P : Type 0} (v : PassView P) (own : Own) (own_is : own ≡ own_in v) (
 
 -- what tells of a swap is no reply to a call
 
-pub alone_told : {P : Type 0} (v : PassView P) (answer : Answer) → IsAnswerAlone v answer → is_reply answer ≡ false
+pub alone_told : {P O R : Type 0} (v : PassView P O R) (answer : Answer R) → IsAnswerAlone v answer → is_reply answer ≡ false
 alone_told v (Busy number) may = refl
 alone_told v (Abandoned number) may = refl
 alone_told v (Replied reply) may = absurd may
@@ -79,7 +79,7 @@ alone_told v (Swapped number) may = absurd may
 alone_told v Spent may = absurd may
 alone_told v Gone may = absurd may
 
-pub over_told : (answer : Answer) → tells_over answer ≡ true → is_reply answer ≡ false
+pub over_told : {R : Type 0} (answer : Answer R) → tells_over answer ≡ true → is_reply answer ≡ false
 over_told Spent over = refl
 over_told Gone over = refl
 over_told (Replied reply) over = absurd (cc)

@@ -19,17 +19,17 @@ use Rattle.k42_board.specs.declared.view.View.TheVariants.{Crew, Spent}
 use Rattle.k42_rule.proofs.Joining.{joins}
 
 -- the seat of a crew may take in that of a pass
-pub joins_pass : {S L P : Type 0} (F : Layouts S L P) (declared : List L) (callers id other : ℕ) (me own : Seated P) → IsCrew me → IsSeatOf own (pass_in own.0)
+pub joins_pass : {S L P O R : Type 0} (F : Layouts S L P O R) (declared : List L) (callers id other : ℕ) (me own : Seated P O R) → IsCrew me → IsSeatOf own (pass_in own.0)
     → Joins (Ruled F declared callers) id me.0 other own.0 (both_crews me.0 own.0) Spent
-joins_pass {S} {L} {P} F declared callers id other me own crew seat =
-    subst (λ (z : Seated P × Seated P). Joins (Ruled F declared callers) id z.0.0 other z.1.0 (both_crews z.0.0 z.1.0) Spent)
+joins_pass {S} {L} {P} {O} {R} F declared callers id other me own crew seat =
+    subst (λ (z : Seated P O R × Seated P O R). Joins (Ruled F declared callers) id z.0.0 other z.1.0 (both_crews z.0.0 z.1.0) Spent)
     (λ i. (sym crew i, sym seat i)) (joins F declared callers id other (crew_in me.0) (pass_in own.0 ∷ []))
 
-module _ {P : Type 0} (table : TableId) (first seat seat' : Seat (Slot P) (View P)) (all rest : List (PassSeen P))
-    (pass : PassSeen P) (own : Seated P) (own_is : IsSeatOf own (pass_in own.0)) (same : pass_in own.0 ≡ pass.view)
+module _ {P O R : Type 0} (table : TableId) (first seat seat' : Seat (Slot P O R) (View P O R)) (all rest : List (PassSeen P O R))
+    (pass : PassSeen P O R) (own : Seated P O R) (own_is : IsSeatOf own (pass_in own.0)) (same : pass_in own.0 ≡ pass.view)
     (h : IsGathering table first seat all (pass ∷ rest)) where
   own_crew : crew_in own.0 ≡ pass.view ∷ []
-  own_crew = ap (λ (m : Seated P). crew_in m.0) own_is ∙ ap (λ (v : PassView P). v ∷ []) same
+  own_crew = ap (λ (m : Seated P O R). crew_in m.0) own_is ∙ ap (λ (v : PassView P O R). v ∷ []) same
 
   pub gathers_more : (seat'.table_id ≡ seat.table_id) × (seat'.id ≡ seat.id) × (seat'.me ≡ (both_crews seat.me.0 own.0, seat.me.1))
       → IsGathering table first seat' all rest
@@ -38,14 +38,14 @@ module _ {P : Type 0} (table : TableId) (first seat seat' : Seat (Slot P) (View 
     same = is.1 ∙ h.same;
     crew = subst IsCrew (sym now) refl;
     views =
-        ap (λ (m : Seated P). crew_in m.0 ++ views_of rest) now
+        ap (λ (m : Seated P O R). crew_in m.0 ++ views_of rest) now
         ∙ append_assoc (crew_in seat.me.0) (pass.view ∷ []) (views_of rest) ∙ h.views;
     theirs = λ c other e. h.theirs (suc c) other e;
   } where
     now : seat'.me ≡ (Crew (crew_in seat.me.0 ++ pass.view ∷ []), [])
     now =
         is.2
-        ∙ (let none = ap (λ (m : Seated P). m.1) h.crew in λ i. (Crew (crew_in seat.me.0 ++ own_crew i), none i))
+        ∙ (let none = ap (λ (m : Seated P O R). m.1) h.crew in λ i. (Crew (crew_in seat.me.0 ++ own_crew i), none i))
 
 cleared : (fs : List Bool) (i : ℕ) → get_or (set fs i false) i false ≡ false
 cleared [] i = refl

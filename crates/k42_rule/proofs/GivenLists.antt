@@ -14,7 +14,7 @@ mapped_at f [] i y e = absurd (cc)
 mapped_at f (x ∷ xs) zero y e = (x, refl, same_Some (f x) y e)
 mapped_at f (x ∷ xs) (suc i) y e = mapped_at f xs i y e
 
-pub given_rest : {L P : Type 0} (sys : SysSeen L) (passes : List (PassSeen P)) → AreAtRest sys passes → AreAtRest sys (with_none_kept passes)
+pub given_rest : {L P O R : Type 0} (sys : SysSeen L) (passes : List (PassSeen P O R)) → AreAtRest sys passes → AreAtRest sys (with_none_kept passes)
 given_rest {L} {P} sys passes rest = record {
   many = length-map passes _ ∙ rest.many;
   each = λ c pass e.
@@ -23,11 +23,11 @@ given_rest {L} {P} sys passes rest = record {
       subst (IsPassAtRest sys c) was.2 (record { ours = is.ours; number = is.number; rests = is.rests });
 }
 
-pub given_lists : {P : Type 0} (passes : List (PassSeen P)) → lists_in (with_none_kept passes) ≡ lists_in passes
+pub given_lists : {P O R : Type 0} (passes : List (PassSeen P O R)) → lists_in (with_none_kept passes) ≡ lists_in passes
 given_lists [] = refl
 given_lists (pass ∷ passes) = ap (λ lists. pass.view.taker.mine ∷ lists) (given_lists passes)
 
 -- where each has kept all, those are all lists
-pub all_kept : {P : Type 0} (passes : List (PassSeen P)) → EachPlace (λ c pass. pass.keep.what ≡ keeps.All) passes → kept_in passes ≡ lists_in passes
+pub all_kept : {P O R : Type 0} (passes : List (PassSeen P O R)) → EachPlace (λ c pass. pass.keep.what ≡ keeps.All) passes → kept_in passes ≡ lists_in passes
 all_kept [] all = refl
 all_kept (pass ∷ passes) all = λ i. kept_of (all 0 pass refl i) pass.keep.given pass.view.taker.mine ∷ all_kept passes (λ c other e. all (suc c) other e) i

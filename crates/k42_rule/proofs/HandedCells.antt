@@ -30,21 +30,21 @@ length_made : {A : Type 0} (f : ℕ → A) (first many : ℕ) → length (made_f
 length_made f first zero = refl
 length_made f first (suc many) = ap suc (length_made f (suc first) many)
 
-held_more : {P : Type 0} (notes : List (Note P)) (xs ys : List (Content P)) → AreHeld notes xs → AreHeld notes ys → AreHeld notes (xs ++ ys)
+held_more : {P O R : Type 0} (notes : List (Note P O R)) (xs ys : List (Content P O R)) → AreHeld notes xs → AreHeld notes ys → AreHeld notes (xs ++ ys)
 held_more notes [] ys one two i content e = two i content e
 held_more notes (x ∷ xs) ys one two zero content e = one zero content e
 held_more notes (x ∷ xs) ys one two (suc i) content e = held_more notes xs ys (λ j z f. one (suc j) z f) two i content e
 
-module _ {S L P : Type 0} (F : Layouts S L P) (declared : List L) (cells : List (Content P)) (to : L) (answer : Answer) (v : PassView P)
+module _ {S L P O R : Type 0} (F : Layouts S L P O R) (declared : List L) (cells : List (Content P O R)) (to : L) (answer : Answer R) (v : PassView P O R)
     (may : MayHandOn F declared (take F.procs cells) (drop F.procs cells) to answer v) where
-  abbrev from : List (Content P)
+  abbrev from : List (Content P O R)
   from = take F.procs cells
 
-  abbrev onto : List (Content P)
+  abbrev onto : List (Content P O R)
   onto = drop F.procs cells
 
   pub many_from : length from ≡ F.procs
-  many_from = sym (length-map from (λ (content : Content P). content.number)) ∙ ap length may.closes ∙ length_made (cell_of may.object (incarnation_in (word_begun v.last))) 0 F.procs
+  many_from = sym (length-map from (λ (content : Content P O R). content.number)) ∙ ap length may.closes ∙ length_made (cell_of may.object (incarnation_in (word_begun v.last))) 0 F.procs
 
   pub all_cells : from ++ onto ≡ cells
   all_cells = take-append-drop F.procs cells
@@ -62,7 +62,7 @@ module _ {S L P : Type 0} (F : Layouts S L P) (declared : List L) (cells : List 
   pub stamp_is : max v.taker.clock (last_told cells) + 1 ≡ stamp_next v (numbers_of from ++ numbers_of onto)
   stamp_is = λ j. max v.taker.clock ((last_held v.notes cells held ∙ ap (last_noted v.notes) (sym all_numbers)) j) + 1
 
-  pub parted : F.procs ≤ 8 → EachPlace (λ place (content : Content P). names (numbers_of from) content.number ≡ false) onto
+  pub parted : F.procs ≤ 8 → EachPlace (λ place (content : Content P O R). names (numbers_of from) content.number ≡ false) onto
   parted few place content e =
       let o = may.object in let i = incarnation_in (word_begun v.last) in
       let is = place_in_row onto F.procs o (i + 1) may.begins few place content e in
@@ -81,17 +81,17 @@ at_right (a ∷ xs) ys zero x e low = absurd (omega (arith, low))
 at_right (a ∷ xs) ys (suc k) x e low = at_right xs ys k x e (omega (arith, low))
 
 -- what the cells tell after the hand
-module _ {S L P : Type 0} (F : Layouts S L P) (declared : List L) (cells : List (Content P)) (to : L) (answer : Answer) (v : PassView P)
-    (may : MayHandOn F declared (take F.procs cells) (drop F.procs cells) to answer v) (entry : Entry) (tag : ℕ) (now : List (Content P))
+module _ {S L P O R : Type 0} (F : Layouts S L P O R) (declared : List L) (cells : List (Content P O R)) (to : L) (answer : Answer R) (v : PassView P O R)
+    (may : MayHandOn F declared (take F.procs cells) (drop F.procs cells) to answer v) (entry : Entry O R) (tag : ℕ) (now : List (Content P O R))
     (told : AreTold (handed_at (take F.procs cells) (drop F.procs cells) entry tag v).notes cells now)
-    (k : ℕ) (content : Content P) (at : slice_get now k ≡ Some content) where
-  abbrev closing : List (Content P)
+    (k : ℕ) (content : Content P O R) (at : slice_get now k ≡ Some content) where
+  abbrev closing : List (Content P O R)
   closing = take F.procs cells
 
-  abbrev opening : List (Content P)
+  abbrev opening : List (Content P O R)
   opening = drop F.procs cells
 
-  before : (old : Content P) × (slice_get (closing ++ opening) k ≡ Some old) × (slice_get cells k ≡ Some old)
+  before : (old : Content P O R) × (slice_get (closing ++ opening) k ≡ Some old) × (slice_get cells k ≡ Some old)
   before =
       let lt = slice_get_within now k content at in let long = told.0 in
       let old = some_at cells k (omega (arith, lt, long)) in

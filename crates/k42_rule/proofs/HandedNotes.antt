@@ -23,31 +23,31 @@ use Rattle.k42_board.specs.declared.view.StepName.TheVariants as steps
 use Rattle.k42_board.proofs.CellsHanded.{each_handed, handed_cells}
 use Rattle.k42_board.proofs.Noted.{first_note, each_named}
 
-module _ {P : Type 0} (from onto : List ℕ) (entry : Entry) (fresh : ℕ → Option P) where
-  abbrev becomes : Note P → Note P
+module _ {P O R : Type 0} (from onto : List ℕ) (entry : Entry O R) (fresh : ℕ → Option P) where
+  abbrev becomes : Note P O R → Note P O R
   becomes note = handed_note from onto entry fresh note
 
-  abbrev pub handed_notes : List (Note P) → List (Note P)
+  abbrev pub handed_notes : List (Note P O R) → List (Note P O R)
   handed_notes notes = map (handed_note from onto entry fresh) notes
 
-  cell_one : (note : Note P) → (becomes note).cell ≡ note.cell
+  cell_one : (note : Note P O R) → (becomes note).cell ≡ note.cell
   cell_one note = go (names from note.cell) (names onto note.cell) where
     go : (a b : Bool) → (cond a (record note { closed = true; part = fresh note.cell }) (cond b (record note { closed = false; history = entry ∷ []; part = fresh note.cell }) note)).cell ≡ note.cell
     go true b = refl
     go false true = refl
     go false false = refl
 
-  closed_one : (note : Note P) → names from note.cell ≡ true → becomes note ≡ record note { closed = true; part = fresh note.cell }
+  closed_one : (note : Note P O R) → names from note.cell ≡ true → becomes note ≡ record note { closed = true; part = fresh note.cell }
   closed_one note e = ap (λ a. cond a (record note { closed = true; part = fresh note.cell }) (cond (names onto note.cell) (record note { closed = false; history = entry ∷ []; part = fresh note.cell }) note)) e
 
-  begun_one : (note : Note P) → names from note.cell ≡ false → names onto note.cell ≡ true
+  begun_one : (note : Note P O R) → names from note.cell ≡ false → names onto note.cell ≡ true
       → becomes note ≡ record note { closed = false; history = entry ∷ []; part = fresh note.cell }
   begun_one note not e =
       ap (λ a. cond a (record note { closed = true; part = fresh note.cell }) (cond (names onto note.cell) (record note { closed = false; history = entry ∷ []; part = fresh note.cell }) note)) not
       ∙ ap (λ b. cond b (record note { closed = false; history = entry ∷ []; part = fresh note.cell }) note) e
 
   -- a closed cell keeps its history
-  pub closed_history : (notes : List (Note P)) (n : ℕ) → names from n ≡ true → history_noted (handed_notes notes) n ≡ history_noted notes n
+  pub closed_history : (notes : List (Note P O R)) (n : ℕ) → names from n ≡ true → history_noted (handed_notes notes) n ≡ history_noted notes n
   closed_history [] n e = refl
   closed_history (note ∷ notes) n e =
       (λ i. cond (eqb (cell_one note i) n) (becomes note).history (closed_history notes n e i)) ∙ go (eqb note.cell n) refl
@@ -57,29 +57,29 @@ module _ {P : Type 0} (from onto : List ℕ) (entry : Entry) (fresh : ℕ → Op
       go true same =
           let here : names from note.cell ≡ true = ap (names from) (eqb-true note.cell n same) ∙ e in
           ap (λ b. cond b (becomes note).history (history_noted notes n)) same
-          ∙ ap (λ (z : Note P). z.history) (closed_one note here) ∙ ap (λ b. cond b note.history (history_noted notes n)) (sym same)
+          ∙ ap (λ (z : Note P O R). z.history) (closed_one note here) ∙ ap (λ b. cond b note.history (history_noted notes n)) (sym same)
       go false apart =
           ap (λ b. cond b (becomes note).history (history_noted notes n)) apart ∙ ap (λ b. cond b note.history (history_noted notes n)) (sym apart)
 
-  pub closed_now : (notes : List (Note P)) (n : ℕ) → names (cells_noted notes) n ≡ true → names from n ≡ true → closed_noted (handed_notes notes) n ≡ true
+  pub closed_now : (notes : List (Note P O R)) (n : ℕ) → names (cells_noted notes) n ≡ true → names from n ≡ true → closed_noted (handed_notes notes) n ≡ true
   closed_now notes n noted e =
       let first = first_note (handed_notes notes) n (ap (λ xs. names xs n) (handed_cells from onto entry fresh notes) ∙ noted) in
       let old = each_handed from onto entry fresh notes first.place first.note first.there in
-      let cell : old.0.cell ≡ n = sym (cell_one old.0) ∙ ap (λ (z : Note P). z.cell) (sym old.2) ∙ first.named in
-      first.closed ∙ ap (λ (z : Note P). z.closed) (old.2 ∙ closed_one old.0 (ap (names from) cell ∙ e))
+      let cell : old.0.cell ≡ n = sym (cell_one old.0) ∙ ap (λ (z : Note P O R). z.cell) (sym old.2) ∙ first.named in
+      first.closed ∙ ap (λ (z : Note P O R). z.closed) (old.2 ∙ closed_one old.0 (ap (names from) cell ∙ e))
 
   -- a cell whose row begins is open, and has the entry alone
-  pub record BeginsRow (notes : List (Note P)) (n : ℕ) : Type 0 where
+  pub record BeginsRow (notes : List (Note P O R)) (n : ℕ) : Type 0 where
     pub opened : closed_noted (handed_notes notes) n ≡ false
     pub history : history_noted (handed_notes notes) n ≡ entry ∷ []
 
-  pub begun_now : (notes : List (Note P)) (n : ℕ) → names (cells_noted notes) n ≡ true → names from n ≡ false → names onto n ≡ true → BeginsRow notes n
+  pub begun_now : (notes : List (Note P O R)) (n : ℕ) → names (cells_noted notes) n ≡ true → names from n ≡ false → names onto n ≡ true → BeginsRow notes n
   begun_now notes n noted not e =
       let first = first_note (handed_notes notes) n (ap (λ xs. names xs n) (handed_cells from onto entry fresh notes) ∙ noted) in
       let old = each_handed from onto entry fresh notes first.place first.note first.there in
-      let cell : old.0.cell ≡ n = sym (cell_one old.0) ∙ ap (λ (z : Note P). z.cell) (sym old.2) ∙ first.named in
+      let cell : old.0.cell ≡ n = sym (cell_one old.0) ∙ ap (λ (z : Note P O R). z.cell) (sym old.2) ∙ first.named in
       let is = old.2 ∙ begun_one old.0 (ap (names from) cell ∙ not) (ap (names onto) cell ∙ e) in
-      record { opened = first.closed ∙ ap (λ (z : Note P). z.closed) is; history = first.history ∙ ap (λ (z : Note P). z.history) is }
+      record { opened = first.closed ∙ ap (λ (z : Note P O R). z.closed) is; history = first.history ∙ ap (λ (z : Note P O R). z.history) is }
 
   -- what the cells are told
 
@@ -87,9 +87,9 @@ module _ {P : Type 0} (from onto : List ℕ) (entry : Entry) (fresh : ℕ → Op
   opens true = refl
   opens false = refl
 
-  onto_due : (notes : List (Note P)) (contents : List (Content P)) → AreHeld notes contents
-      → EachPlace (λ place (content : Content P). names from content.number ≡ false) contents
-      → EachPlace (λ place (content : Content P). names onto content.number ≡ true) contents → entry.stamp ≤ LAST_STAMP
+  onto_due : (notes : List (Note P O R)) (contents : List (Content P O R)) → AreHeld notes contents
+      → EachPlace (λ place (content : Content P O R). names from content.number ≡ false) contents
+      → EachPlace (λ place (content : Content P O R). names onto content.number ≡ true) contents → entry.stamp ≤ LAST_STAMP
       → AreDue (handed_notes notes) 0 true entry.stamp contents
   onto_due notes [] held apart named small = tt
   onto_due notes (content ∷ contents) held apart named small =
@@ -109,10 +109,10 @@ module _ {P : Type 0} (from onto : List ℕ) (entry : Entry) (fresh : ℕ → Op
   last_first : (more was stamp : ℕ) → was ≡ last_due (suc more) was stamp
   last_first more was stamp = sym (ap (λ b. cond b was stamp) (lt-ltb 0 (suc more) (omega arith)))
 
-  pub hand_due : (notes : List (Note P)) (closes begins : List (Content P)) → AreHeld notes closes
-      → EachPlace (λ place (content : Content P). names from content.number ≡ true) closes → AreHeld notes begins
-      → EachPlace (λ place (content : Content P). names from content.number ≡ false) begins
-      → EachPlace (λ place (content : Content P). names onto content.number ≡ true) begins → entry.stamp ≤ LAST_STAMP
+  pub hand_due : (notes : List (Note P O R)) (closes begins : List (Content P O R)) → AreHeld notes closes
+      → EachPlace (λ place (content : Content P O R). names from content.number ≡ true) closes → AreHeld notes begins
+      → EachPlace (λ place (content : Content P O R). names from content.number ≡ false) begins
+      → EachPlace (λ place (content : Content P O R). names onto content.number ≡ true) begins → entry.stamp ≤ LAST_STAMP
       → AreDue (handed_notes notes) (length closes) true entry.stamp (closes ++ begins)
   hand_due notes [] begins held named held' apart named' small = onto_due notes begins held' apart named' small
   hand_due notes (content ∷ closes) begins held named held' apart named' small = (
@@ -127,22 +127,22 @@ module _ {P : Type 0} (from onto : List ℕ) (entry : Entry) (fresh : ℕ → Op
   )
 
 -- the numbers of two rows of cells
-pub numbers_more : {P : Type 0} (from onto : List (Content P)) → numbers_of (from ++ onto) ≡ numbers_of from ++ numbers_of onto
+pub numbers_more : {P O R : Type 0} (from onto : List (Content P O R)) → numbers_of (from ++ onto) ≡ numbers_of from ++ numbers_of onto
 numbers_more [] onto = refl
 numbers_more (content ∷ from) onto = ap (λ xs. content.number ∷ xs) (numbers_more from onto)
 
 -- the seat after the hand, and once its cells were told
 
-module _ {P : Type 0} (v : PassView P) (from onto : List (Content P)) (entry : Entry) (tag : ℕ) where
-  pub seat_due : (me : Seated P) (word : ℕ) → IsSeatOf me (took steps.Draw word 0 (hands_at from onto entry tag v)) → HasSmallStamp (hands_at from onto entry tag v) → AreHeld v.notes from → AreHeld v.notes onto
-      → EachPlace (λ place (content : Content P). names (numbers_of from) content.number ≡ false) onto
+module _ {P O R : Type 0} (v : PassView P O R) (from onto : List (Content P O R)) (entry : Entry O R) (tag : ℕ) where
+  pub seat_due : (me : Seated P O R) (word : ℕ) → IsSeatOf me (took steps.Draw word 0 (hands_at from onto entry tag v)) → HasSmallStamp (hands_at from onto entry tag v) → AreHeld v.notes from → AreHeld v.notes onto
+      → EachPlace (λ place (content : Content P O R). names (numbers_of from) content.number ≡ false) onto
       → AreDue (pass_in me.0).notes (length from) true entry.stamp (from ++ onto)
   seat_due me word is small held held' apart =
-      subst (λ (m : Seated P). AreDue (pass_in m.0).notes (length from) true entry.stamp (from ++ onto)) (sym is)
+      subst (λ (m : Seated P O R). AreDue (pass_in m.0).notes (length from) true entry.stamp (from ++ onto)) (sym is)
       (hand_due (numbers_of from) (numbers_of onto) entry (part_in (from ++ onto)) v.notes from onto held (each_named from) held' apart (each_named onto) small)
 
 -- the cells once they were told, for those who put them back
-module _ {P : Type 0} (from onto : List ℕ) (entry : Entry) (fresh : ℕ → Option P) (notes : List (Note P)) (old new : Content P)
+module _ {P O R : Type 0} (from onto : List ℕ) (entry : Entry O R) (fresh : ℕ → Option P) (notes : List (Note P O R)) (old new : Content P O R)
     (told : IsTold (handed_notes from onto entry fresh notes) old new) (noted : names (cells_noted notes) old.number ≡ true) where
   pub closed_told : names from old.number ≡ true → new.closed ≡ true
   closed_told e =

@@ -38,8 +38,8 @@ beside_joined id other beside = record beside {
   row_seat = λ row. moved other id (beside.row_seat row);
 }
 
-module _ {L P : Type 0} (tag_of : L → ℕ) (s : Joined L) (beside : Beside P) (id other : ℕ) where
-  moved_pass : (j k : ℕ) (x : PassView P) → moved other id j ≡ k → KnowsPass tag_of s beside j x
+module _ {L P O R : Type 0} (tag_of : L → ℕ) (s : Joined L O R) (beside : Beside P) (id other : ℕ) where
+  moved_pass : (j k : ℕ) (x : PassView P O R) → moved other id j ≡ k → KnowsPass tag_of s beside j x
       → KnowsPass tag_of s (beside_joined id other beside) k x
   moved_pass j k x is knows = record {
     there = knows.there;
@@ -55,7 +55,7 @@ module _ {L P : Type 0} (tag_of : L → ℕ) (s : Joined L) (beside : Beside P) 
   }
 
   module _ (apart : other ≢ id) where
-    pub moved_others : (j : ℕ) (view : View P) → j ≢ id → j ≢ other → Knows tag_of s beside j view
+    pub moved_others : (j : ℕ) (view : View P O R) → j ≢ id → j ≢ other → Knows tag_of s beside j view
         → Knows tag_of s (beside_joined id other beside) j view
     moved_others j (Crew passes) not not_other known =
         (known.0, λ place x e. moved_pass j j x (moved_same other id j not_other) (known.1 place x e))
@@ -65,7 +65,7 @@ module _ {L P : Type 0} (tag_of : L → ℕ) (s : Joined L) (beside : Beside P) 
     moved_others j (Drew stamp) not not_other known = known
     moved_others j Spent not not_other known = tt
 
-    module _ (ours theirs : List (PassView P)) (mine : Knows tag_of s beside id (Crew ours)) (them : Knows tag_of s beside other (Crew theirs)) where
+    module _ (ours theirs : List (PassView P O R)) (mine : Knows tag_of s beside id (Crew ours)) (them : Knows tag_of s beside other (Crew theirs)) where
       apart_both : AreApart (ours ++ theirs)
       apart_both i j v w e f same =
           ⊎_elim
@@ -91,7 +91,7 @@ module _ {L P : Type 0} (tag_of : L → ℕ) (s : Joined L) (beside : Beside P) 
             (at_either ours theirs place x e),
       )
 
-module _ {S L P : Type 0} (F : Layouts S L P) (declared : List L) (callers id other : ℕ) (ours theirs : List (PassView P)) where
+module _ {S L P O R : Type 0} (F : Layouts S L P O R) (declared : List L) (callers id other : ℕ) (ours theirs : List (PassView P O R)) where
   joined : Joins (Rule F declared) id (Crew ours) other (Crew theirs) (Crew (ours ++ theirs)) Spent
   joined table r at apart at_other = record {
     state = r.state;
@@ -109,10 +109,10 @@ module _ {S L P : Type 0} (F : Layouts S L P) (declared : List L) (callers id ot
     parts = r.parts;
     seats = λ j view e.
         ⊎_elim
-        (λ here. subst (λ (w : View P). Knows F.tag_of r.state (beside_joined id other r.beside) j w) here.1 tt)
+        (λ here. subst (λ (w : View P O R). Knows F.tag_of r.state (beside_joined id other r.beside) j w) here.1 tt)
         (λ else.
         ⊎_elim
-        (λ here. subst (λ (z : ℕ × View P). Knows F.tag_of r.state (beside_joined id other r.beside) z.0 z.1) (λ i. (sym here.0 i, here.1 i)) both)
+        (λ here. subst (λ (z : ℕ × View P O R). Knows F.tag_of r.state (beside_joined id other r.beside) z.0 z.1) (λ i. (sym here.0 i, here.1 i)) both)
         (λ old. moved_others F.tag_of r.state r.beside id other apart j view old.0 else.0 (r.seats j view old.1))
         (at_set table.views id j (Crew (ours ++ theirs)) view else.1))
         (at_set (set table.views id (Crew (ours ++ theirs))) other j Spent view e);

@@ -6,8 +6,6 @@ use Rattle.k42_kinds.specs.Histories.{is_call}
 use Rattle.k42_kinds.specs.declared.entry.Act.TheVariants.{Call}
 use Rattle.k42_kinds.specs.declared.entry.Answer.TheVariants.{Replied}
 use Rattle.k42_kinds.specs.declared.entry.Entry.{Entry}
-use Rattle.k42_kinds.specs.declared.operation.Op.{Op}
-use Rattle.k42_kinds.specs.declared.operation.Reply.{Reply}
 use Rattle.phase_core.specs.Stages.{object_of, row_of}
 use Rattle.k42_joined.specs.Drawing.{first_cell}
 use Rattle.k42_log.specs.Entries.{Owner}
@@ -23,7 +21,7 @@ use Rattle.k42_board.specs.declared.view.PassView.{PassView}
 use Rattle.k42_board.proofs.Noted as noted
 use Rattle.k42_rule.specs.Keeping.{HasKept, MayKeep, first_of}
 
-module _ (given : ℕ) (mine : List Entry) (few : given ≤ length mine) where
+module _ {O R : Type 0} (given : ℕ) (mine : List (Entry O R)) (few : given ≤ length mine) where
   dropped : given + length (drop given mine) ≡ length mine
   dropped = let left = length-drop given mine in omega (arith, left, few)
 
@@ -35,19 +33,19 @@ module _ (given : ℕ) (mine : List Entry) (few : given ≤ length mine) where
   next_within keeps.Sections n is = omega (arith, is, dropped)
   next_within keeps.Nothing n is = omega (arith, is)
 
-  next_kept : (what : Keep) (before : List Entry) (entry : ℕ → Entry) (n : ℕ) → n ≡ first_of what given + length (kept_of what given mine)
+  next_kept : (what : Keep) (before : List (Entry O R)) (entry : ℕ → Entry O R) (n : ℕ) → n ≡ first_of what given + length (kept_of what given mine)
       → kept_with what before (entry n) ≡ kept_with what before (entry (length mine))
   next_kept keeps.All before entry n is = ap (λ m. kept_with keeps.All before (entry m)) (is ∙ all_kept)
   next_kept keeps.Sections before entry n is = ap (λ m. kept_with keeps.Sections before (entry m)) (is ∙ dropped)
   next_kept keeps.Nothing before entry n is = refl
 
-  next_may : (what : Keep) (log : LogSeen) (e : Entry) → next_index log ≡ first_of what given + length (kept_of what given mine) → e.index ≡ length mine
+  next_may : (what : Keep) (log : LogSeen O R) (e : Entry O R) → next_index log ≡ first_of what given + length (kept_of what given mine) → e.index ≡ length mine
       → (next_index log ≡ e.index → IsNextOf log e) → MayKeep what log e
   next_may keeps.All log e is index may = may (is ∙ all_kept ∙ sym index)
   next_may keeps.Sections log e is index may = may (is ∙ dropped ∙ sym index)
   next_may keeps.Nothing log e is index may = tt
 
-module _ (keep : Keeping) (number home : ℕ) (mine : List Entry) (clock : ℕ) (log : LogSeen) (has : HasKept keep number home mine clock log) where
+module _ {O R : Type 0} (keep : Keeping) (number home : ℕ) (mine : List (Entry O R)) (clock : ℕ) (log : LogSeen O R) (has : HasKept keep number home mine clock log) where
   next_is : next_index log ≡ first_of keep.what keep.given + length (kept_of keep.what keep.given mine)
   next_is = λ i. has.first i + length (has.kept_is i)
 
@@ -55,7 +53,7 @@ module _ (keep : Keeping) (number home : ℕ) (mine : List Entry) (clock : ℕ) 
   index_few few = let within = next_within keep.given mine has.parted.few keep.what (next_index log) next_is in omega (arith, within, few)
 
   -- an entry of a swap
-  pub may_keep : (e : Entry) → e.caller ≡ number → e.proc ≡ home → e.index ≡ length mine → length mine < PASS_ENTRIES → e.object < OBJECTS → e.cell < CELLS
+  pub may_keep : (e : Entry O R) → e.caller ≡ number → e.proc ≡ home → e.index ≡ length mine → length mine < PASS_ENTRIES → e.object < OBJECTS → e.cell < CELLS
       → is_call e.act ≡ is_reply e.answer → MayKeep keep.what log e
   may_keep e caller proc index few object cell answered =
       next_may keep.given mine has.parted.few keep.what log e next_is index
@@ -70,7 +68,7 @@ module _ (keep : Keeping) (number home : ℕ) (mine : List Entry) (clock : ℕ) 
       })
 
   -- and that of a call, which is not made before it is kept
-  pub kept_call : {P : Type 0} (v : PassView P) (own : Own) (contents : List (Content P)) (op : Op) (reply : Reply) (stamp object row cell : ℕ) (generation : Option ℕ)
+  pub kept_call : {P : Type 0} (v : PassView P O R) (own : Own) (contents : List (Content P O R)) (op : O) (reply : R) (stamp object row cell : ℕ) (generation : Option ℕ)
       → own ≡ own_in v → number ≡ own.number → home ≡ own.turn.proc → mine ≡ v.taker.mine → stamp ≡ stamp_next v (numbers_of contents) → object ≡ object_of own.place
       → row ≡ row_of own.place → cell ≡ first_cell (numbers_of contents) → generation ≡ own.turn.active
       → kept_with keep.what log.entries (call_entry log stamp object row cell generation op reply) ≡ kept_with keep.what log.entries (entry_at contents op reply v)

@@ -8,6 +8,7 @@ pub mod Pushed
 pub mod Entries
 pub mod Drawn
 pub mod Fitting
+pub mod Freed
 pub mod Opening
 pub mod Joining
 pub mod Gathering

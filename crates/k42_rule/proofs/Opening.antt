@@ -66,7 +66,7 @@ spans_none : {span : ℕ × ℕ} → span ≡ (0, 0) → span.0 < span.1 → ⊥
 spans_none is less = let a = ap (λ (z : ℕ × ℕ). z.0) is in let b = ap (λ (z : ℕ × ℕ). z.1) is in omega (arith, a, b, less)
 
 -- the passes of the first view
-passes_at : {P : Type 0} (procs objects first : ℕ) (homes : List ℕ) (i : ℕ) (v : PassView P) → slice_get (new_passes procs objects first homes) i ≡ Some v
+passes_at : {P O R : Type 0} (procs objects first : ℕ) (homes : List ℕ) (i : ℕ) (v : PassView P O R) → slice_get (new_passes procs objects first homes) i ≡ Some v
     → (home : ℕ) × (slice_get homes i ≡ Some home) × (new_pass procs objects (first + i) home ≡ v)
 passes_at procs objects first [] i v e = absurd (cc)
 passes_at {P} procs objects first (home ∷ homes) zero v e =
@@ -75,10 +75,10 @@ passes_at {P} procs objects first (home ∷ homes) (suc i) v e =
     let more = passes_at procs objects (first + 1) homes i v e in
     (more.0, more.1, ap (λ n. new_pass {P = P} procs objects n more.0) (omega arith) ∙ more.2)
 
-module _ {S L P : Type 0} (F : Layouts S L P) (laws : AreLaws F) (declared : List L) (callers : List ℕ) (plan : IsPlan F declared callers)
-    (words : List ℕ) (slots : List (Slot P)) (first : AreFirstWords F.tag_of declared (length declared) words)
+module _ {S L P O R : Type 0} (F : Layouts S L P O R) (laws : AreLaws F) (declared : List L) (callers : List ℕ) (plan : IsPlan F declared callers)
+    (words : List ℕ) (slots : List (Slot P O R)) (first : AreFirstWords F.tag_of declared (length declared) words)
     (many : length slots ≡ many_slots) (filled : AreFirstSlots slots) where
-  abbrev s : Joined L
+  abbrev s : Joined L O R
   s = fresh F declared callers
 
   abbrev beside : Beside P
@@ -169,7 +169,7 @@ module _ {S L P : Type 0} (F : Layouts S L P) (laws : AreLaws F) (declared : Lis
     many_slots = length-map slots some ∙ many;
     few_objects = let few = few_objects in rw (length-map (map F.tag_of declared) (new_object F.procs), length-map declared F.tag_of) few;
     few_entries = λ c x e.
-        let none = ap (λ (y : turns'.Caller). length y.mine) (replicated (length callers) c turns.fresh_caller x e).1 in omega (arith, none);
+        let none = ap (λ (y : turns'.Caller O R). length y.mine) (replicated (length callers) c turns.fresh_caller x e).1 in omega (arith, none);
     generations = generations;
     objects = objects;
     cells = cells;
@@ -207,7 +207,7 @@ module _ {S L P : Type 0} (F : Layouts S L P) (laws : AreLaws F) (declared : Lis
     cells = record {
       taker = same_everywhere (length callers) c turns.fresh_caller;
       notes = λ place note is. absurd (cc);
-      noted = λ n lock away. absurd (let home = ap (λ (x : turns'.Cell). x.home) (get_or-map fresh_cell (first_lives (length declared)) n 0) in cc);
+      noted = λ n lock away. absurd (let home = ap (λ (x : turns'.Cell O R). x.home) (get_or-map fresh_cell (first_lives (length declared)) n 0) in cc);
       out = λ n is. absurd (cc);
       only = λ n lock is. absurd (cc);
     };
@@ -223,13 +223,13 @@ module _ {S L P : Type 0} (F : Layouts S L P) (laws : AreLaws F) (declared : Lis
     there : c < length callers
     there = slice_get_within callers c home e
 
-  seats : (id : ℕ) (view : View P) → get_elem? (first_view {L = L} {P = P} F.procs declared callers ∷ []) id ≡ some view → Knows F.tag_of s beside id view
+  seats : (id : ℕ) (view : View P O R) → get_elem? (first_view {L = L} {P = P} F.procs declared callers ∷ []) id ≡ some view → Knows F.tag_of s beside id view
   seats zero view e =
       subst (Knows F.tag_of s beside 0) (some-injective _ view e) (
         (λ i j v w e f same.
             let one = (passes_at F.procs (length declared) 0 callers i v e).2 in
             let other = (passes_at F.procs (length declared) 0 callers j w f).2 in
-            let a = ap (λ (z : PassView P). z.number) one in let b = ap (λ (z : PassView P). z.number) other in omega (arith, a, b, same)),
+            let a = ap (λ (z : PassView P O R). z.number) one in let b = ap (λ (z : PassView P O R). z.number) other in omega (arith, a, b, same)),
         λ place v is.
             let at = passes_at F.procs (length declared) 0 callers place v is in
             subst (KnowsPass F.tag_of s beside 0) (ap (λ n. new_pass {P = P} F.procs (length declared) n at.0) (omega arith) ∙ at.2) (knows_new place at.0 at.1),

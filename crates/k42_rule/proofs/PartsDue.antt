@@ -5,7 +5,6 @@ use Rattle.std.specs.Option.{unwrap_or}
 use Rattle.std.proofs.lemmas.Bool.{eqb-true}
 use Rattle.std.proofs.lemmas.Option.{same_Some}
 use Rattle.std.specs.Prelude.{IsTrue}
-use Rattle.k42_kinds.specs.declared.operation.Op.{Op}
 use Rattle.k42_kinds.specs.declared.entry.Reach.TheVariants.{One}
 use Rattle.k42_kinds.specs.LayoutLaws.{Agree, IsReached}
 use Rattle.k42_kinds.specs.Rows.{Ways, cells_of, made_from, part_at, IsWithin}
@@ -20,16 +19,16 @@ use Rattle.k42_board.specs.Taking.{IsRowNoted}
 use Rattle.k42_board.specs.declared.view.Note.{Note}
 
 -- the first note of a cell, which tells its part and its history
-pub record IsFirstNote {P : Type 0} (notes : List (Note P)) (n : ℕ) : Type 0 where
+pub record IsFirstNote {P O R : Type 0} (notes : List (Note P O R)) (n : ℕ) : Type 0 where
   pub place : ℕ
-  pub note : Note P
+  pub note : Note P O R
   pub there : slice_get notes place ≡ Some note
   pub named : note.cell ≡ n
   pub part : part_noted notes n ≡ note.part
   pub history : history_noted notes n ≡ note.history
   pub closed : closed_noted notes n ≡ note.closed
 
-pub first_note : {P : Type 0} (notes : List (Note P)) (n : ℕ) → names (cells_noted notes) n ≡ true → IsFirstNote notes n
+pub first_note : {P O R : Type 0} (notes : List (Note P O R)) (n : ℕ) → names (cells_noted notes) n ≡ true → IsFirstNote notes n
 first_note [] n e = absurd (cc)
 first_note (note ∷ notes) n e = go (eqb note.cell n) refl e (first_note notes n) where
   go : (b : Bool) → eqb note.cell n ≡ b → b || names (cells_noted notes) n ≡ true → (names (cells_noted notes) n ≡ true → IsFirstNote notes n)
@@ -56,7 +55,7 @@ first_note (note ∷ notes) n e = go (eqb note.cell n) refl e (first_note notes 
       }
 
 -- what is due of a place that the row has
-due_is : {S P : Type 0} (ways : Ways S P) (procs p : ℕ) (own due : Option P) → (due ≡ None → ⊥) → HasDue ways procs p own due
+due_is : {S P O R : Type 0} (ways : Ways S P O R) (procs p : ℕ) (own due : Option P) → (due ≡ None → ⊥) → HasDue ways procs p own due
     → due ≡ Some (unwrap_or own (ways.empty procs p))
 due_is ways procs p (Some own) (Some due) there is = ap Some (sym is)
 due_is ways procs p None (Some due) there is = ap Some is
@@ -67,7 +66,7 @@ part_there [] p lt e = omega (arith, lt)
 part_there (part ∷ parts) zero lt e = cc
 part_there (part ∷ parts) (suc p) lt e = part_there parts p (omega (arith, lt)) e
 
-pub due_part : {S P : Type 0} (ways : Ways S P) (procs : ℕ) (notes : List (Note P)) (o i p : ℕ) (row : List P) → p < length row
+pub due_part : {S P O R : Type 0} (ways : Ways S P O R) (procs : ℕ) (notes : List (Note P O R)) (o i p : ℕ) (row : List P) → p < length row
     → HasDue ways procs p (part_noted notes (cell_of o i p)) (part_at row p) → part_at row p ≡ Some (part_due ways procs notes o i p)
 due_part ways procs notes o i p row lt is =
     due_is ways procs p (part_noted notes (cell_of o i p)) (part_at row p) (part_there row p lt) is
@@ -84,7 +83,7 @@ made_of make first (suc many) (part ∷ row) long each =
     (λ p lt. each (suc p) (omega (arith, lt)) ∙ ap (λ k. Some (make k)) (omega arith)) in
     λ k. sym head k ∷ rest k
 
-module _ {S L P : Type 0} (F : Layouts S L P) (laws : AreLaws F) (declared : List L) (notes : List (Note P)) (o i tag : ℕ) (is : IsRowNoted F declared notes o i tag) where
+module _ {S L P O R : Type 0} (F : Layouts S L P O R) (laws : AreLaws F) (declared : List L) (notes : List (Note P O R)) (o i tag : ℕ) (is : IsRowNoted F declared notes o i tag) where
   pub many_parts : length is.row ≡ cells_of tag F.procs
   many_parts = (laws.stands is.layout is.row is.known is.whole).sized ∙ ap (λ t. cells_of t F.procs) is.tagged
 
@@ -104,7 +103,7 @@ module _ {S L P : Type 0} (F : Layouts S L P) (laws : AreLaws F) (declared : Lis
       (λ p lt. row_part p (inside p lt) lt (noted p lt) ∙ ap (λ k. Some (part_due (F.ways_of is.layout) F.procs notes o i k)) (omega arith))
 
 -- what a call needs to know of parts: its layout keeps the object as that of the row does
-module _ {S L P : Type 0} (F : Layouts S L P) (laws : AreLaws F) (declared : List L) (notes : List (Note P)) (o i : ℕ) (declaration layout : L)
+module _ {S L P O R : Type 0} (F : Layouts S L P O R) (laws : AreLaws F) (declared : List L) (notes : List (Note P O R)) (o i : ℕ) (declaration layout : L)
     (declares : slice_get declared o ≡ Some declaration) (kind : F.object_of layout ≡ F.object_of declaration)
     (is : IsRowNoted F declared notes o i (F.tag_of layout))
     (agrees : (l m : L) → F.object_of l ≡ F.object_of m → F.tag_of l ≡ F.tag_of m
@@ -123,10 +122,10 @@ module _ {S L P : Type 0} (F : Layouts S L P) (laws : AreLaws F) (declared : Lis
   pub part_of_row : (p : ℕ) → p < cells_of (F.tag_of layout) F.procs → names (cells_noted notes) (cell_of o i p) ≡ true
       → part_at is.row p ≡ Some (part_due (F.ways_of layout) F.procs notes o i p)
   part_of_row p lt noted =
-      subst (λ (ways : Ways S P). part_at is.row p ≡ Some (part_due ways F.procs notes o i p)) agree.ways
+      subst (λ (ways : Ways S P O R). part_at is.row p ≡ Some (part_due ways F.procs notes o i p)) agree.ways
       (row_part F laws declared notes o i (F.tag_of layout) is p (few_cells p lt) lt noted)
 
-  pub part_reached : (op : Op) (proc p : ℕ) → proc < F.procs → IsTrue ((F.object_of layout).takes op) → (F.ways_of layout).reach F.procs op proc ≡ One p
+  pub part_reached : (op : O) (proc p : ℕ) → proc < F.procs → IsTrue ((F.object_of layout).takes op) → (F.ways_of layout).reach F.procs op proc ≡ One p
       → names (cells_noted notes) (cell_of o i p) ≡ true → IsReached (F.ways_of layout) (F.Whole layout) (part_due (F.ways_of layout) F.procs notes o i p) op
   part_reached op proc p there takes reach noted =
       let known : F.tag_of layout ≤ 2 = subst (λ t. t ≤ 2) is.tagged is.known in
@@ -149,5 +148,5 @@ module _ {S L P : Type 0} (F : Layouts S L P) (laws : AreLaws F) (declared : Lis
   parts_whole noted =
       subst (F.Whole layout F.procs)
       (sym (row_parts F laws declared notes o i (F.tag_of layout) is few_cells noted)
-      ∙ ap (λ (ways : Ways S P). parts_due ways F.procs notes o i (F.tag_of layout)) agree.ways)
+      ∙ ap (λ (ways : Ways S P O R). parts_due ways F.procs notes o i (F.tag_of layout)) agree.ways)
       (agree.whole F.procs is.row is.whole)

@@ -10,7 +10,7 @@ use Rattle.k42_stamp.specs.Layouts.{Layouts}
 use Rattle.k42_joined.specs.Fresh.{IsPlan}
 use Rattle.k42_board.specs.Starting.{IsStart}
 
-pub plan_of : {S L P : Type 0} (F : Layouts S L P) (declared : List L) (callers : List ℕ) → IsStart F.tag_of declared F.procs callers
+pub plan_of : {S L P O R : Type 0} (F : Layouts S L P O R) (declared : List L) (callers : List ℕ) → IsStart F.tag_of declared F.procs callers
     → ((c : ℕ) → F.proc_of c ≡ slice_index_or callers c 0) → IsPlan F declared callers
 plan_of F declared callers start told = record {
   phases = record {

@@ -16,13 +16,13 @@ use Rattle.k42_board.proofs.CellsApart.{first_noted}
 use Rattle.k42_rule.proofs.PartsDue.{first_note}
 
 -- the notes tell of the cell what its seat tells
-pub record AgreesWithNotes {P : Type 0} (notes : List (Note P)) (content : Content P) : Type 0 where
+pub record AgreesWithNotes {P O R : Type 0} (notes : List (Note P O R)) (content : Content P O R) : Type 0 where
   pub noted : names (cells_noted notes) content.number ≡ true
   pub history : (told_by content.badge.views).history ≡ history_noted notes content.number
   pub closed : (told_by content.badge.views).closed ≡ closed_noted notes content.number
 
 -- so it is with a cell that was just taken
-pub taken_agrees : {P : Type 0} (content : Content P) (v : PassView P) → AgreesWithNotes (taken_view content v).notes content
+pub taken_agrees : {P O R : Type 0} (content : Content P O R) (v : PassView P O R) → AgreesWithNotes (taken_view content v).notes content
 taken_agrees content v =
     let same = eq-eqb content.number content.number refl in
     record {
@@ -31,10 +31,10 @@ taken_agrees content v =
       closed = rw same refl;
     }
 
-pub taken_part : {P : Type 0} (content : Content P) (v : PassView P) → part_noted (taken_view content v).notes content.number ≡ content.part
+pub taken_part : {P O R : Type 0} (content : Content P O R) (v : PassView P O R) → part_noted (taken_view content v).notes content.number ≡ content.part
 taken_part content v = let same = eq-eqb content.number content.number refl in rw same refl
 
-pub may_put : {S L P : Type 0} (F : Layouts S L P) (declared : List L) (id n : ℕ) (v : PassView P) (content : Content P) → content.number ≡ n → n < CELLS
+pub may_put : {S L P O R : Type 0} (F : Layouts S L P O R) (declared : List L) (id n : ℕ) (v : PassView P O R) (content : Content P O R) → content.number ≡ n → n < CELLS
     → AgreesWithNotes v.notes content → Always F declared id v (λ s. IsPart F declared s n content.part) → MayPut F declared id n content v
 may_put F declared id n v content number few is part =
     let first = first_note v.notes content.number is.noted in

@@ -46,7 +46,7 @@ first_put (y ∷ rest) x put some is same = ap (λ z. z ∷ rest) (same ∙ is)
 
 module _ {P : Type 0} where
   -- told again, now of the greatest clock, each pass has that
-  skipped_again : (stamp greatest : ℕ) (passes : List (PassSeen P)) → stamp ≤ greatest → greatest_clock (views_of passes) ≤ greatest
+  skipped_again : {O R : Type 0} (stamp greatest : ℕ) (passes : List (PassSeen P O R)) → stamp ≤ greatest → greatest_clock (views_of passes) ≤ greatest
       → skipped_on greatest (skipped_on stamp passes) ≡ map (skipped greatest) passes
   skipped_again stamp greatest [] low most = refl
   skipped_again stamp greatest (pass ∷ passes) low most =
@@ -68,41 +68,41 @@ module _ {P : Type 0} where
         clock_is = later own greatest own_low ∙ sym (later pass.view.taker.clock greatest clock_low)
 
   -- of the lists that the calls leave, one after the other
-  pub raised_twice : (passes told once twice : List (PassSeen P)) (clock stamp : ℕ) → told ≡ passes → clock ≤ greatest_clock (views_of passes) → once ≡ skipped_on clock told
+  pub raised_twice : {O R : Type 0} (passes told once twice : List (PassSeen P O R)) (clock stamp : ℕ) → told ≡ passes → clock ≤ greatest_clock (views_of passes) → once ≡ skipped_on clock told
       → stamp ≡ max (greatest_clock (views_of told)) clock → twice ≡ skipped_on stamp once → twice ≡ map (skipped (greatest_clock (views_of passes))) passes
-  raised_twice passes told once twice clock stamp same low once_is stamp_is twice_is =
+  raised_twice {O} {R} passes told once twice clock stamp same low once_is stamp_is twice_is =
       let greatest = greatest_clock (views_of passes) in
       twice_is ∙ ap (skipped_on stamp) (once_is ∙ ap (skipped_on clock) same)
-      ∙ ap (λ n. skipped_on n (skipped_on clock passes)) (stamp_is ∙ ap (λ (all : List (PassSeen P)). max (greatest_clock (views_of all)) clock) same ∙ max-eq_left low)
+      ∙ ap (λ n. skipped_on n (skipped_on clock passes)) (stamp_is ∙ ap (λ (all : List (PassSeen P O R)). max (greatest_clock (views_of all)) clock) same ∙ max-eq_left low)
       ∙ skipped_again clock greatest passes low (omega arith)
 
   -- the first clock is not above the greatest
-  pub first_low : (passes rest : List (PassSeen P)) (first : PassSeen P) (clock : ℕ) → passes ≡ first ∷ rest → clock ≡ first.view.taker.clock → clock ≤ greatest_clock (views_of passes)
-  first_low passes rest first clock is same =
-      subst (λ (all : List (PassSeen P)). clock ≤ greatest_clock (views_of all)) (sym is)
+  pub first_low : {O R : Type 0} (passes rest : List (PassSeen P O R)) (first : PassSeen P O R) (clock : ℕ) → passes ≡ first ∷ rest → clock ≡ first.view.taker.clock → clock ≤ greatest_clock (views_of passes)
+  first_low {O} {R} passes rest first clock is same =
+      subst (λ (all : List (PassSeen P O R)). clock ≤ greatest_clock (views_of all)) (sym is)
       (let low = le-max_left first.view.taker.clock (greatest_clock (views_of rest)) in omega (arith, low, same))
 
   -- each is of the same table as before
-  pub skipped_ours : (table : TableId) (stamp : ℕ) (passes : List (PassSeen P)) → EachPlace (λ c (pass : PassSeen P). pass.table ≡ table) passes
-      → EachPlace (λ c (pass : PassSeen P). pass.table ≡ table) (skipped_on stamp passes)
+  pub skipped_ours : {O R : Type 0} (table : TableId) (stamp : ℕ) (passes : List (PassSeen P O R)) → EachPlace (λ c (pass : PassSeen P O R). pass.table ≡ table) passes
+      → EachPlace (λ c (pass : PassSeen P O R). pass.table ≡ table) (skipped_on stamp passes)
   skipped_ours table stamp [] ours c other at = ours c other at
-  skipped_ours table stamp (pass ∷ passes) ours zero other at = ap (λ (x : PassSeen P). x.table) (sym (same_Some (skipped stamp pass) other at)) ∙ ours 0 pass refl
+  skipped_ours {O} {R} table stamp (pass ∷ passes) ours zero other at = ap (λ (x : PassSeen P O R). x.table) (sym (same_Some (skipped stamp pass) other at)) ∙ ours 0 pass refl
   skipped_ours table stamp (pass ∷ passes) ours (suc c) other at =
       skipped_ours table (max pass.view.taker.clock stamp) passes (λ d x e. ours (suc d) x e) c other at
 
   -- no clock is above the greatest
-  pub clocks_low : (passes : List (PassSeen P)) → EachPlace (λ c pass. pass.view.taker.clock ≤ greatest_clock (views_of passes)) passes
+  pub clocks_low : {O R : Type 0} (passes : List (PassSeen P O R)) → EachPlace (λ c pass. pass.view.taker.clock ≤ greatest_clock (views_of passes)) passes
   clocks_low [] c pass at = absurd (cc)
-  clocks_low (first ∷ passes) zero pass at =
-      let is = ap (λ (x : PassSeen P). x.view.taker.clock) (same_Some first pass at) in
+  clocks_low {O} {R} (first ∷ passes) zero pass at =
+      let is = ap (λ (x : PassSeen P O R). x.view.taker.clock) (same_Some first pass at) in
       let low = le-max_left first.view.taker.clock (greatest_clock (views_of passes)) in omega (arith, is, low)
   clocks_low (first ∷ passes) (suc c) pass at =
       let low = clocks_low passes c pass at in
       let rest = le-max_right first.view.taker.clock (greatest_clock (views_of passes)) in omega (arith, low, rest)
 
-  pub all_even : (passes : List (PassSeen P))
+  pub all_even : {O R : Type 0} (passes : List (PassSeen P O R))
       → EachPlace (λ c pass. pass.view.taker.clock ≡ greatest_clock (views_of passes)) (map (skipped (greatest_clock (views_of passes))) passes)
-  all_even passes =
+  all_even {O} {R} passes =
       let greatest = greatest_clock (views_of passes) in
-      EachPlace-map (λ c (pass : PassSeen P). pass.view.taker.clock ≡ greatest) (skipped greatest) passes
+      EachPlace-map (λ c (pass : PassSeen P O R). pass.view.taker.clock ≡ greatest) (skipped greatest) passes
       (λ c pass at. later pass.view.taker.clock greatest (clocks_low passes c pass at))

@@ -43,12 +43,12 @@ rows_given rows turned now many granted is long cut =
     ∙ take-append_seam (drop granted rows) (take granted rows)
 
 -- taking the role draws nothing
-pub role_keeps : {P : Type 0} (v : PassView P) (me : Seated P) (found : ℕ) → IsSeatOf me (took steps.TakeRole role_word found (role_view found v)) → found ≡ 0
+pub role_keeps : {P O R : Type 0} (v : PassView P O R) (me : Seated P O R) (found : ℕ) → IsSeatOf me (took steps.TakeRole role_word found (role_view found v)) → found ≡ 0
     → (pass_in me.0).taker.mine ≡ v.taker.mine
-role_keeps v me found seat zero =
-    ap (λ (m : Seated _). (pass_in m.0).taker.mine) (subst (λ n. IsSeatOf me (took steps.TakeRole role_word n (role_view n v))) zero seat)
+role_keeps {O} {R} v me found seat zero =
+    ap (λ (m : Seated _ O R). (pass_in m.0).taker.mine) (subst (λ n. IsSeatOf me (took steps.TakeRole role_word n (role_view n v))) zero seat)
 
-module _ {P : Type 0} (v : PassView P) (own : Own) (own_is : own ≡ own_in v) where
+module _ {P O R : Type 0} (v : PassView P O R) (own : Own) (own_is : own ≡ own_in v) where
   pub noted_anew :
       (rows : List Row) (old was new : List (Option ℕ)) (many : ℕ) → rows ≡ own.rows → old ≡ own.noted → was ≡ own.noted → many ≡ length own.noted
       → new ≡ made_from (due_of own.swap own.last rows) 0 (length was)
@@ -61,11 +61,11 @@ module _ {P : Type 0} (v : PassView P) (own : Own) (own_is : own ≡ own_in v) w
         due = rw (rows_are, was_is, own_is) refl
 
   pub role_mirrors :
-      (me : Seated P) (found : ℕ) (noted : List (Option ℕ)) (swap : SwapAt) (granted : ℕ) → IsSeatOf me (took steps.TakeRole role_word found (role_view found v)) → found ≡ 0
+      (me : Seated P O R) (found : ℕ) (noted : List (Option ℕ)) (swap : SwapAt) (granted : ℕ) → IsSeatOf me (took steps.TakeRole role_word found (role_view found v)) → found ≡ 0
       → v.out ≡ None → v.untold ≡ [] → noted ≡ notes_due v → swap ≡ draining_from own.swap → granted ≡ length own.rows
       → Mirrors me (record own { turn = record own.turn { grace = Flipping 0 }; noted = noted; swap = swap; graces = own.graces + 1; base = None; granted = granted })
   role_mirrors me found noted swap granted seat zero out untold noted_is swap_is granted_is =
-      subst (λ (m : Seated P). Mirrors m (record own { turn = record own.turn { grace = Flipping 0 }; noted = noted; swap = swap; graces = own.graces + 1; base = None; granted = granted }))
+      subst (λ (m : Seated P O R). Mirrors m (record own { turn = record own.turn { grace = Flipping 0 }; noted = noted; swap = swap; graces = own.graces + 1; base = None; granted = granted }))
       (sym (subst (λ n. IsSeatOf me (took steps.TakeRole role_word n (role_view n v))) zero seat))
       (record { seat = refl; own_is = rw (noted_is, swap_is, granted_is, own_is) refl; out = out; told = untold })
 

@@ -47,7 +47,7 @@ when_true true x y e = refl
 when_true false x y e = absurd (cc)
 
 -- an event frees rows, and takes none back
-event_keeps_freed : {S L P : Type 0} (F : Layouts S L P) (declared : List L) (s : Joined L) (event : Event L) → IsPossible F declared s event
+event_keeps_freed : {S L P O R : Type 0} (F : Layouts S L P O R) (declared : List L) (s : Joined L O R) (event : Event L O R) → IsPossible F declared s event
     → KeepsFreed s (effect s event)
 event_keeps_freed F declared s (AtPhases event) possible o =
     subst (λ (t : Phases). (object_at s.phases o).freed ≤ (object_at t o).freed)
@@ -56,8 +56,8 @@ event_keeps_freed F declared s (AtPhases event) possible o =
 event_keeps_freed F declared s (AtCells event) possible o = le_refl (object s o).freed
 event_keeps_freed F declared s (HandWith c from onto layout entry) possible o = le_refl (object s o).freed
 
-module _ {S L P : Type 0} (F : Layouts S L P) (declared : List L) where
-  pub present : (table : State (Slot P) (View P)) (rule : Rule F declared table) (id : ℕ) (v : PassView P)
+module _ {S L P O R : Type 0} (F : Layouts S L P O R) (declared : List L) where
+  pub present : (table : State (Slot P O R) (View P O R)) (rule : Rule F declared table) (id : ℕ) (v : PassView P O R)
       → get_elem? table.views id ≡ some (Crew (v ∷ [])) → is_served v.visitor.place ≡ true → IsPresent v rule.state
   present table rule id v at served = record {
     incarnation_is = (inside_is_present rule.state.phases rule.sound.phases v.number (object_of v.visitor.place) (row_of v.visitor.place) knows.there (rw knows.phases.visitor inside)).1;
@@ -70,14 +70,14 @@ module _ {S L P : Type 0} (F : Layouts S L P) (declared : List L) where
     inside : IsInside v.visitor.place (object_of v.visitor.place) (row_of v.visitor.place)
     inside = served_inside v.visitor.place served
 
-  pub step_keeps_freed : (event : Event L) (word : ℕ) (changed : ℕ → ℕ) (id : ℕ) (v : PassView P) (found : ℕ) (w : PassView P)
+  pub step_keeps_freed : (event : Event L O R) (word : ℕ) (changed : ℕ → ℕ) (id : ℕ) (v : PassView P O R) (found : ℕ) (w : PassView P O R)
       → StepIs F declared event word changed id v found w → StepKeepsFreed F declared word changed id v found w
   step_keeps_freed event word changed id v found w step table r at is =
       let after = step table r at is in
       (after.0, subst (KeepsFreed r.state) (sym after.1) (event_keeps_freed F declared r.state event after.2))
 
 -- the seat of a view is that of each row that it names
-named_at : {L P : Type 0} (tag_of : L → ℕ) (s : Joined L) (beside : Beside P) (id : ℕ) (view : View P) (row : Row) → Knows tag_of s beside id view
+named_at : {L P O R : Type 0} (tag_of : L → ℕ) (s : Joined L O R) (beside : Beside P) (id : ℕ) (view : View P O R) (row : Row) → Knows tag_of s beside id view
     → Names view row → beside.row_seat row ≡ id
 named_at tag_of s beside id (Crew passes) row knows names = (knows.1 names.0 names.2 names.3).names.named names.1 row names.4
 named_at tag_of s beside id (Named named) row knows names = ap beside.row_seat (sym names) ∙ knows.1
@@ -85,8 +85,8 @@ named_at tag_of s beside id (Kept told) row knows names = absurd names
 named_at tag_of s beside id (Drew stamp) row knows names = absurd names
 named_at tag_of s beside id Spent row knows names = absurd names
 
-pub one_name : {S L P : Type 0} (F : Layouts S L P) (declared : List L) (table : State (Slot P) (View P)) (rule : Rule F declared table) (row : Row)
-    (i j : ℕ) (v w : View P) → get_elem? table.views i ≡ some v → get_elem? table.views j ≡ some w → Names v row → Names w row → i ≡ j
+pub one_name : {S L P O R : Type 0} (F : Layouts S L P O R) (declared : List L) (table : State (Slot P O R) (View P O R)) (rule : Rule F declared table) (row : Row)
+    (i j : ℕ) (v w : View P O R) → get_elem? table.views i ≡ some v → get_elem? table.views j ≡ some w → Names v row → Names w row → i ≡ j
 one_name F declared table rule row i j v w at at' names names' =
     sym (named_at F.tag_of rule.state rule.beside i v row (rule.seats i v at) names)
     ∙ named_at F.tag_of rule.state rule.beside j w row (rule.seats j w at') names'

@@ -21,49 +21,49 @@ use Rattle.k42_board.specs.declared.view.PassView.{PassView}
 use Rattle.k42_board.specs.declared.view.View.{View}
 
 -- what the passes know, and their entries
-abbrev pub views_of : {P : Type 0} → List (PassSeen P) → List (PassView P)
+abbrev pub views_of : {P O R : Type 0} → List (PassSeen P O R) → List (PassView P O R)
 views_of passes = map (λ pass. pass.view) passes
 
-abbrev pub lists_in : {P : Type 0} → List (PassSeen P) → List (List Entry)
+abbrev pub lists_in : {P O R : Type 0} → List (PassSeen P O R) → List (List (Entry O R))
 lists_in passes = map (λ pass. pass.view.taker.mine) passes
 
 -- what the logs say
-abbrev pub logged_in : List LogSeen → List (List Entry)
+abbrev pub logged_in : {O R : Type 0} → List (LogSeen O R) → List (List (Entry O R))
 logged_in logs = map (λ log. log.entries) logs
 
 -- of their entries, what the passes have kept
-abbrev pub kept_in : {P : Type 0} → List (PassSeen P) → List (List Entry)
+abbrev pub kept_in : {P O R : Type 0} → List (PassSeen P O R) → List (List (Entry O R))
 kept_in passes = map (λ pass. kept_by pass.keep pass.view.taker.mine) passes
 
 -- a pass once it has given that away
-abbrev pub with_none : {P : Type 0} → PassSeen P → PassSeen P
+abbrev pub with_none : {P O R : Type 0} → PassSeen P O R → PassSeen P O R
 with_none pass = record pass { keep = record pass.keep { what = keeps.Nothing }; room = 0 }
 
-abbrev pub with_none_kept : {P : Type 0} → List (PassSeen P) → List (PassSeen P)
+abbrev pub with_none_kept : {P O R : Type 0} → List (PassSeen P O R) → List (PassSeen P O R)
 with_none_kept passes = map with_none passes
 
 -- the pass is that of the caller with this number, and has nothing under way
-pub record IsPassAtRest {L P : Type 0} (sys : SysSeen L) (c : ℕ) (pass : PassSeen P) : Type 0 where
+pub record IsPassAtRest {L P O R : Type 0} (sys : SysSeen L) (c : ℕ) (pass : PassSeen P O R) : Type 0 where
   pub ours : IsOf sys pass
   pub number : pass.view.number ≡ c
   pub rests : is_at_rest pass.view ≡ true
 
 -- all passes of the system, in order
-pub record AreAtRest {L P : Type 0} (sys : SysSeen L) (passes : List (PassSeen P)) : Type 0 where
+pub record AreAtRest {L P O R : Type 0} (sys : SysSeen L) (passes : List (PassSeen P O R)) : Type 0 where
   pub many : length passes ≡ length sys.callers
   pub each : EachPlace (IsPassAtRest sys) passes
 
 -- a caller that is in no activity, no grace, no call and no swap
-pub record IsResting {L : Type 0} (s : Joined L) (c : ℕ) : Type 0 where
+pub record IsResting {L O R : Type 0} (s : Joined L O R) (c : ℕ) : Type 0 where
   pub inactive : (caller_at s.phases.turns c).active ≡ None
   pub out : is_out (visitor_at s.phases c).place ≡ true
   pub swap : is_idle (visitor_at s.phases c).swap ≡ true
 
 -- the lists are those that the callers drew in a state that meets the invariant, where everybody rests
 pub record AreLastLists
-    {S L P : Type 0} (F : Layouts S L P) (declared : List L) (callers : ℕ) (lists : List (List Entry))
+    {S L P O R : Type 0} (F : Layouts S L P O R) (declared : List L) (callers : ℕ) (lists : List (List (Entry O R)))
     : Type 0 where
-  pub state : Joined L
+  pub state : Joined L O R
   pub sound : IsSound F declared state
   pub many : many_callers state ≡ callers
   pub drawn : lists ≡ lists_of state
@@ -71,7 +71,7 @@ pub record AreLastLists
 
 -- the seats of the first passes are one with the first, and those of the rest are to come
 pub record IsGathering
-    {P : Type 0} (table : TableId) (first seat : Seat (Slot P) (View P)) (all rest : List (PassSeen P))
+    {P O R : Type 0} (table : TableId) (first seat : Seat (Slot P O R) (View P O R)) (all rest : List (PassSeen P O R))
     : Type 0 where
   pub ours : seat.table_id ≡ first.table_id
   pub same : seat.id ≡ first.id

@@ -18,7 +18,7 @@ abbrev pub first_kept : Keeping → ℕ
 first_kept keep = first_of keep.what keep.given
 
 -- Its list is that of its caller; no stamp is above the clock, and the last section is not later either.
-pub record HasKept (keep : Keeping) (number home : ℕ) (mine : List Entry) (clock : ℕ) (kept : LogSeen) : Type 0 where
+pub record HasKept {O R : Type 0} (keep : Keeping) (number home : ℕ) (mine : List (Entry O R)) (clock : ℕ) (kept : LogSeen O R) : Type 0 where
   pub kept_is : kept.entries ≡ kept_by keep mine
   pub owner : kept.owner ≡ record { caller = number; proc = home }
   pub first : kept.first ≡ first_kept keep
@@ -29,7 +29,7 @@ pub record HasKept (keep : Keeping) (number home : ℕ) (mine : List Entry) (clo
   pub few : length mine ≤ PASS_ENTRIES
 
 -- where any are kept, the entry is the next one of the log
-abbrev pub MayKeep : Keep → LogSeen → Entry → Type 0
+abbrev pub MayKeep : {O R : Type 0} → Keep → LogSeen O R → Entry O R → Type 0
 MayKeep keeps.All log entry = IsNextOf log entry
 MayKeep keeps.Sections log entry = IsNextOf log entry
 MayKeep keeps.Nothing log entry = ⊤

@@ -10,9 +10,9 @@ use Rattle.k42_board.specs.Views.{first_view}
 use Rattle.k42_board.specs.Words.{many_slots}
 
 -- it was opened with these words and slots, where no cell has a part, and shows the new state
-pub record IsOpened {S L P : Type 0} (F : Layouts S L P) (declared : List L) (callers : List ℕ) : Type 0 where
+pub record IsOpened {S L P O R : Type 0} (F : Layouts S L P O R) (declared : List L) (callers : List ℕ) : Type 0 where
   pub words : List ℕ
-  pub slots : List (Slot P)
+  pub slots : List (Slot P O R)
   pub told : AreFirstWords F.tag_of declared (length declared) words
   pub many : length slots ≡ many_slots
   pub filled : AreFirstSlots slots

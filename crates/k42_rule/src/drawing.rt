@@ -15,11 +15,11 @@ use k42_board::{
     Cell, LastBegin, alone_word, call_word, first_of, last_at, mark_word, one_word, stamp_after,
     tell_all, tell_cell,
 };
-use k42_kinds::{Act, Answer, Entry, Layout, Op, Reply};
+use k42_kinds::{Act, Answer, Entry, Layout};
 use std::marker::Brand;
 
 /// The number of the swap that was refused or given up.
-fn number_in(answer: &Answer) -> u32
+fn number_in<R>(answer: &Answer<R>) -> u32
     ensures { result ≡ number_told answer.now }
 {
     match *answer {
@@ -29,7 +29,12 @@ fn number_in(answer: &Answer) -> u32
 }
 
 /// Draws, at no cell, that a swap was refused by another, or given up.
-pub fn draw_alone<L: Layout>(sys: &Sys<L>, pass: &mut Pass<L>, act: Act, answer: Answer) -> u64
+pub fn draw_alone<L: Layout>(
+    sys: &Sys<L>,
+    pass: &mut Pass<L>,
+    act: Act<L::Op>,
+    answer: Answer<L::Reply>,
+) -> u64
     requires ours { IsOf sys.now pass.old }
     requires room { HasRoom pass.old }
     requires may { MayDrawAlone act answer pass.old.view }
@@ -63,8 +68,8 @@ pub fn draw_mark<L: Layout>(
     sys: &Sys<L>,
     pass: &mut Pass<L>,
     cell: &mut Cell<L>,
-    act: Act,
-    answer: Answer,
+    act: Act<L::Op>,
+    answer: Answer<L::Reply>,
 ) -> u64
     requires ours { IsOf sys.now pass.old }
     requires room { HasRoom pass.old }
@@ -102,8 +107,8 @@ fn draw_at<L: Layout>(
     sys: &Sys<L>,
     pass: &mut Pass<L>,
     cells: &mut [Cell<L>],
-    op: &Op,
-    reply: &Reply,
+    op: &L::Op,
+    reply: &L::Reply,
 ) -> u64
     requires ours { IsOf sys.now pass.old }
     requires agree { AgreeOn (layouts_in L.Layout sys.now) }
@@ -142,8 +147,8 @@ pub fn draw_one<L: Layout>(
     sys: &Sys<L>,
     pass: &mut Pass<L>,
     cell: &mut Cell<L>,
-    op: &Op,
-    reply: &Reply,
+    op: &L::Op,
+    reply: &L::Reply,
 ) -> u64
     requires ours { IsOf sys.now pass.old }
     requires room { HasRoom pass.old }
@@ -181,8 +186,8 @@ pub fn draw_call<L: Layout>(
     sys: &Sys<L>,
     pass: &mut Pass<L>,
     cells: &mut Vec<Cell<L>>,
-    op: &Op,
-    reply: &Reply,
+    op: &L::Op,
+    reply: &L::Reply,
 ) -> u64
     requires ours { IsOf sys.now pass.old }
     requires room { HasRoom pass.old }

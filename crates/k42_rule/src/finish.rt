@@ -20,7 +20,11 @@ use k42_log::Log;
 use std::alloc::Global;
 
 /// The passes give away the logs of what they have kept, in their order.
-pub fn give_logs<L: Layout>(alloc: Global, passes: &mut [Pass<L>], logs: &mut Vec<Log>)
+pub fn give_logs<L: Layout>(
+    alloc: Global,
+    passes: &mut [Pass<L>],
+    logs: &mut Vec<Log<L::Op, L::Reply>>,
+)
     requires room { vec_len logs.old + length passes.old ≤ vec_capacity logs.old }
     ensures logs { logged_in logs.new.items ≡ logged_in logs.old.items ++ kept_in passes.old }
     ensures few { entries_in (kept_in passes.old) ≤ length passes.old * PASS_ENTRIES }
@@ -49,7 +53,7 @@ pub(crate) fn gather<L: Layout>(board: &Board<L>, seat: &mut BoardSeat<L>, passe
 /// Frees the table. In its last state the seat's passes are what they were.
 pub(crate) fn close<L: Layout>(board: Board<L>, seat: BoardSeat<L>)
     requires { seat.table_id ≡ board.shared.table_id }
-    ensures { (table : State (Slot L.Part) (View L.Part)) × Seen (Ruled
+    ensures { (table : State (Slot L.Part L.Op L.Reply) (View L.Part L.Op L.Reply)) × Seen (Ruled
         (layouts_by L.Layout board.shared.key)
         board.shared.key.layouts.items (length board.shared.key.callers.items)) seat.id seat.me.0 table }
 {

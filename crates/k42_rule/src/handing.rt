@@ -22,8 +22,8 @@ fn done_entry<L: Layout>(
     pass: &Pass<L>,
     cells: &[Cell<L>],
     to: &L,
-    answer: Answer,
-) -> Entry
+    answer: Answer<L::Reply>,
+) -> Entry<L::Op, L::Reply>
     requires may { MayHandAt (layouts_in L.Layout sys.now) sys.now.layouts cells.now to.now answer pass.now.view }
     ensures is { result ≡ entry_done sys.now.procs cells.now (L.act_of to.now) answer pass.now.view }
     ensures few { result.cell < 320 }
@@ -49,7 +49,7 @@ fn hand_at<L: Layout>(
     pass: &mut Pass<L>,
     cells: &mut [Cell<L>],
     to: &L,
-    answer: Answer,
+    answer: Answer<L::Reply>,
 ) -> u64
     requires ours { IsOf sys.now pass.old }
     requires room { HasRoom pass.old }
@@ -79,7 +79,7 @@ pub fn draw_done<L: Layout>(
     pass: &mut Pass<L>,
     cells: &mut Vec<Cell<L>>,
     to: &L,
-    answer: Answer,
+    answer: Answer<L::Reply>,
 ) -> u64
     requires ours { IsOf sys.now pass.old }
     requires room { HasRoom pass.old }

@@ -7,11 +7,15 @@ ghost use Rattle.k42_log.specs.declared.head.TheConstants.{CELLS};
 ghost use Rattle.k42_rule.specs.Keeping.{MayKeep};
 
 use k42_board::Keep;
-use k42_kinds::{Entry, Op, Reply};
+use k42_kinds::{Entry, Packed, PackedReply};
 use k42_log::Log;
 
 /// Keeps the entry, where any are kept.
-pub(crate) fn store(keep: Keep, kept: &mut Log, entry: &Entry)
+pub(crate) fn store<O: Packed, R: PackedReply>(
+    keep: Keep,
+    kept: &mut Log<O, R>,
+    entry: &Entry<O, R>,
+)
     requires room { room_due keep ≤ kept.old.room }
     requires may { MayKeep keep kept.old entry.now }
     ensures entries { kept.new.entries ≡ kept_with keep kept.old.entries entry.now }
@@ -27,16 +31,16 @@ pub(crate) fn store(keep: Keep, kept: &mut Log, entry: &Entry)
 
 /// Keeps the entry of a call, which is not made before.
 #[inline(always)]
-pub(crate) fn store_call(
+pub(crate) fn store_call<O: Packed, R: PackedReply>(
     keep: Keep,
-    kept: &mut Log,
+    kept: &mut Log<O, R>,
     stamp: u64,
     object: u32,
     row: u32,
     cell: u32,
     generation: Option<u32>,
-    op: &Op,
-    reply: &Reply,
+    op: &O,
+    reply: &R,
 )
     requires room { room_due keep ≤ kept.old.room }
     requires few { next_index kept.old < PASS_ENTRIES }

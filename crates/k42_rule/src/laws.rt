@@ -30,7 +30,7 @@ pub fn layouts_are_lawful<L: Layout>(sys: &Sys<L>)
 /// In whatever state the table shows, nobody is inside a row from which state is moved, who is inside a row finds
 /// its cells open, and no row that was read is freed.
 pub fn shown_states_are_safe<L: Layout>(sys: &Sys<L>)
-    ensures { (table : State (Slot L.Part) (View L.Part))
+    ensures { (table : State (Slot L.Part L.Op L.Reply) (View L.Part L.Op L.Reply))
         (rule : Rule (layouts_in L.Layout sys.now) sys.now.layouts table)
         → IsSafe rule.state }
 {
@@ -40,9 +40,9 @@ pub fn shown_states_are_safe<L: Layout>(sys: &Sys<L>)
 /// The row that a direct or a tracked call is inside is its object's present one, and has the layout that the pass
 /// has learned.
 pub fn rows_inside_are_present<L: Layout>(sys: &Sys<L>)
-    ensures { (table : State (Slot L.Part) (View L.Part))
+    ensures { (table : State (Slot L.Part L.Op L.Reply) (View L.Part L.Op L.Reply))
         (rule : Rule (layouts_in L.Layout sys.now) sys.now.layouts table)
-        (id : ℕ) (v : PassView L.Part) → get_elem? table.views id ≡ some (Crew (v ∷ []))
+        (id : ℕ) (v : PassView L.Part L.Op L.Reply) → get_elem? table.views id ≡ some (Crew (v ∷ []))
         → is_served v.visitor.place ≡ true → IsPresent v rule.state }
 {
     let _ = &sys.board;
@@ -50,7 +50,7 @@ pub fn rows_inside_are_present<L: Layout>(sys: &Sys<L>)
 
 /// No step takes back that a row is freed.
 pub fn freed_rows_stay_freed<L: Layout>(sys: &Sys<L>)
-    ensures { (event : Event L) (word : ℕ) (changed : ℕ → ℕ) (id : ℕ) (v : PassView L.Part) (found : ℕ) (w : PassView L.Part)
+    ensures { (event : Event L L.Op L.Reply) (word : ℕ) (changed : ℕ → ℕ) (id : ℕ) (v : PassView L.Part L.Op L.Reply) (found : ℕ) (w : PassView L.Part L.Op L.Reply)
         → StepIs
         (layouts_in L.Layout sys.now)
         sys.now.layouts event word changed id v found w
@@ -63,9 +63,9 @@ pub fn freed_rows_stay_freed<L: Layout>(sys: &Sys<L>)
 
 /// A row is named by one seat at most.
 pub fn rows_have_one_name<L: Layout>(sys: &Sys<L>)
-    ensures { (table : State (Slot L.Part) (View L.Part))
+    ensures { (table : State (Slot L.Part L.Op L.Reply) (View L.Part L.Op L.Reply))
         (rule : Rule (layouts_in L.Layout sys.now) sys.now.layouts table)
-        (row : Row) (i j : ℕ) (v w : View L.Part) → get_elem? table.views i ≡ some v → get_elem? table.views j ≡ some w
+        (row : Row) (i j : ℕ) (v w : View L.Part L.Op L.Reply) → get_elem? table.views i ≡ some v → get_elem? table.views j ≡ some w
         → Names v row → Names w row → i ≡ j }
 {
     let _ = &sys.board;

@@ -19,7 +19,7 @@ use atomic_table::Seat;
 use crossbeam_queue::SegPass;
 use gen_core::GraceAt;
 use k42_board::{Carried, Content, Inside, Keep, LastBegin, Row, Slip, View, layout_in};
-use k42_kinds::Layout;
+use k42_kinds::{Kind, Layout, Packed, PackedReply};
 use k42_log::Log;
 use k42_memory::Memory;
 use phase_core::{Place, SwapAt};
@@ -28,9 +28,9 @@ use std::marker::Model;
 use std::mem::replace;
 
 #[derive(Drop)]
-pub struct Walker<P: Drop> {
-    pub(crate) seat: Seat<Option<Content<P>>, View<P>>,
-    pub(crate) post: SegPass<Slip<P>, Carried>,
+pub struct Walker<P: Drop, O: Packed, R: PackedReply> {
+    pub(crate) seat: Seat<Option<Content<P, O, R>>, View<P, O, R>>,
+    pub(crate) post: SegPass<Slip<P, O, R>, Carried>,
     pub(crate) number: u32,
     pub(crate) home: u32,
     pub(crate) active: Option<u32>,
@@ -49,7 +49,7 @@ pub struct Walker<P: Drop> {
     /// How many of its entries sections have taken, and the clock to which the last of these raised all.
     pub(crate) given: u64,
     pub(crate) since: u64,
-    pub(crate) kept: Log,
+    pub(crate) kept: Log<O, R>,
     pub(crate) graces: u32,
     pub(crate) base: Option<u32>,
     pub(crate) last: Option<LastBegin>,
@@ -62,9 +62,9 @@ pub struct Walker<P: Drop> {
     pub(crate) _apart: [u64; 16],
 }
 
-pub type Pass<L> = Walker<<L as Layout>::Part>;
+pub type Pass<L> = Walker<<L as Layout>::Part, <L as Kind>::Op, <L as Kind>::Reply>;
 
-impl<P: Drop> Model for Walker<P> {
+impl<P: Drop, O: Packed, R: PackedReply> Model for Walker<P, O, R> {
     ghost use Rattle.std.specs.Prelude.{ℕ, ◌+◌, ◌-◌, ◌^◌, ◌≡◌, ◌<◌, ◌≤◌, None, length, vec_capacity};
     ghost use Rattle.std.specs.Option.{unwrap_or};
     ghost use Rattle.k42_limits.specs.declared.TheConstants.{LAST_INCARNATION, LAST_STAMP};
@@ -77,7 +77,7 @@ impl<P: Drop> Model for Walker<P> {
     ghost use Rattle.k42_board.specs.Views.{object_begun, pass_in, word_begun};
     ghost use Rattle.k42_rule.specs.Keeping.{HasKept};
 
-    ghost Value = { PassSeen P };
+    ghost Value = { PassSeen P O R };
 
     ghost view = { λ p. record {
       table = p.seat.table_id;
@@ -121,7 +121,7 @@ impl<P: Drop> Model for Walker<P> {
         × (unwrap_or p.handed 0 ≤ 2) × (object_begun p.last < 16) };
 }
 
-impl<P: Drop> Walker<P> {
+impl<P: Drop, O: Packed, R: PackedReply> Walker<P, O, R> {
     pub fn caller(&self) -> u32
         ensures { result ≡ self.now.view.number }
     {
@@ -220,7 +220,7 @@ impl<P: Drop> Walker<P> {
     }
 
     /// The log of the entries that it keeps, the oldest first.
-    pub fn log(&self) -> &Log
+    pub fn log(&self) -> &Log<O, R>
         ensures kept { result.now.entries ≡ kept_by self.now.keep self.now.view.taker.mine }
         ensures last { result.now.entries ≡ drop (length self.now.view.taker.mine - length result.now.entries) self.now.view.taker.mine }
     {
@@ -228,7 +228,7 @@ impl<P: Drop> Walker<P> {
     }
 
     /// Gives away the log of what it has kept. It keeps none from now on.
-    pub(crate) fn give_kept(&mut self, alloc: Global) -> Log
+    pub(crate) fn give_kept(&mut self, alloc: Global) -> Log<O, R>
         ensures given { result.entries ≡ kept_by self.old.keep self.old.view.taker.mine }
         ensures few { length result.entries ≤ PASS_ENTRIES }
         ensures stays { self.new ≡ with_none self.old }
@@ -238,7 +238,7 @@ impl<P: Drop> Walker<P> {
     }
 
     /// Gives away what it has drawn since the last section. The next has what it draws from now on.
-    pub(crate) fn give_rest(&mut self, alloc: Global) -> Log
+    pub(crate) fn give_rest(&mut self, alloc: Global) -> Log<O, R>
         requires { self.old.keep.what ≡ keeps.Sections }
         ensures given { result.entries ≡ drop self.old.keep.given self.old.view.taker.mine }
         ensures few { length result.entries ≤ PASS_ENTRIES }

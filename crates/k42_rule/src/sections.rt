@@ -19,12 +19,12 @@ use std::alloc::Global;
 
 /// A seat that tells of a stamp.
 #[derive(Drop)]
-pub struct Telling<P: Drop> {
-    seat: Seat<Option<Content<P>>, View<P>>,
+pub struct Telling<P: Drop, O, R> {
+    seat: Seat<Option<Content<P, O, R>>, View<P, O, R>>,
     stamp: u64,
 }
 
-fn tell<L: Layout>(sys: &Sys<L>, pass: &mut Pass<L>) -> Telling<L::Part>
+fn tell<L: Layout>(sys: &Sys<L>, pass: &mut Pass<L>) -> Telling<L::Part, L::Op, L::Reply>
     requires ours { IsOf sys.now pass.old }
     ensures same { pass.new ≡ pass.old }
     ensures tells { TellsStamp sys.now result }
@@ -36,7 +36,7 @@ fn tell<L: Layout>(sys: &Sys<L>, pass: &mut Pass<L>) -> Telling<L::Part>
     }
 }
 
-fn skip<L: Layout>(sys: &Sys<L>, pass: &mut Pass<L>, telling: Telling<L::Part>)
+fn skip<L: Layout>(sys: &Sys<L>, pass: &mut Pass<L>, telling: Telling<L::Part, L::Op, L::Reply>)
     requires ours { IsOf sys.now pass.old }
     requires tells { TellsStamp sys.now telling }
     ensures { pass.new ≡ skipped telling.stamp pass.old }
@@ -50,8 +50,8 @@ fn skip<L: Layout>(sys: &Sys<L>, pass: &mut Pass<L>, telling: Telling<L::Part>)
 fn skip_on<L: Layout>(
     sys: &Sys<L>,
     passes: &mut [Pass<L>],
-    telling: Telling<L::Part>,
-) -> Telling<L::Part>
+    telling: Telling<L::Part, L::Op, L::Reply>,
+) -> Telling<L::Part, L::Op, L::Reply>
     requires ours { EachPlace (λ c pass. IsOf sys.now pass) passes.old }
     requires tells { TellsStamp sys.now telling }
     ensures passes { passes.new ≡ skipped_on telling.stamp passes.old }
@@ -67,7 +67,10 @@ fn skip_on<L: Layout>(
 }
 
 /// A seat that tells of the first clock, where there is a pass.
-fn tell_first<L: Layout>(sys: &Sys<L>, passes: &mut [Pass<L>]) -> Option<Telling<L::Part>>
+fn tell_first<L: Layout>(
+    sys: &Sys<L>,
+    passes: &mut [Pass<L>],
+) -> Option<Telling<L::Part, L::Op, L::Reply>>
     requires ours { EachPlace (λ c pass. IsOf sys.now pass) passes.old }
     ensures same { passes.new ≡ passes.old }
     ensures cases { MatchOption result (length passes.old ≡ 0) (λ telling. TellsStamp sys.now telling × (telling.stamp ≤ greatest_clock (views_of passes.old))) }
@@ -90,7 +93,11 @@ fn raise_clocks<L: Layout>(sys: &Sys<L>, passes: &mut [Pass<L>])
 }
 
 /// The passes give what they have drawn since the last section, in their order.
-fn give_rests<L: Layout>(alloc: Global, passes: &mut [Pass<L>], logs: &mut Vec<Log>)
+fn give_rests<L: Layout>(
+    alloc: Global,
+    passes: &mut [Pass<L>],
+    logs: &mut Vec<Log<L::Op, L::Reply>>,
+)
     requires keeps { EachPlace (λ c pass. pass.keep.what ≡ keeps.Sections) passes.old }
     requires room { vec_len logs.old + length passes.old ≤ vec_capacity logs.old }
     ensures logs { logged_in logs.new.items ≡ logged_in logs.old.items ++ rests_in passes.old }
@@ -110,7 +117,7 @@ pub fn give_section<L: Layout>(
     sys: &Sys<L>,
     alloc: Global,
     passes: &mut [Pass<L>],
-    logs: &mut Vec<Log>,
+    logs: &mut Vec<Log<L::Op, L::Reply>>,
 )
     requires may { MayGiveSection sys.now passes.old }
     requires room { vec_len logs.old + length passes.old ≤ vec_capacity logs.old }

@@ -23,8 +23,8 @@ fn deal<L: Layout>(
     alloc: Global,
     board: &Board<L>,
     seat: &mut BoardSeat<L>,
-    line: &Line<L::Part>,
-    root: &mut Post<L::Part>,
+    line: &Line<L::Part, L::Op, L::Reply>,
+    root: &mut Post<L::Part, L::Op, L::Reply>,
     procs: u32,
     objects: usize,
     keep: Keep,
@@ -34,7 +34,7 @@ fn deal<L: Layout>(
     requires ours { (seat.old.table_id ≡ board.now.shared.table_id) × (board.now.shared.table_id.words ≡ many_words) }
     requires few { (procs ≤ 8) × (home < 8) }
     requires post { IsSegPassOf line.now root.old × IsTied board.now.shared.table_id root.old.me.view.client }
-    requires crew { (rest : List (PassView L.Part)) × (seat.old.me ≡ (Crew (new_pass procs objects number home ∷ rest), [])) }
+    requires crew { (rest : List (PassView L.Part L.Op L.Reply)) × (seat.old.me ≡ (Crew (new_pass procs objects number home ∷ rest), [])) }
     ensures ours { (seat.new.table_id ≡ seat.old.table_id) × (seat.new.me ≡ (dealer seat.old.me.0, [])) }
     ensures post { IsSegPassOf line.now root.new × IsTied board.now.shared.table_id root.new.me.view.client }
     ensures dealt { IfOk result (λ pass. IsNewPass board.now.shared.table_id line.now keep procs objects number home pass) }
@@ -80,8 +80,8 @@ pub(crate) fn deal_all<L: Layout>(
     alloc: Global,
     board: &Board<L>,
     seat: &mut BoardSeat<L>,
-    line: &Line<L::Part>,
-    root: &mut Post<L::Part>,
+    line: &Line<L::Part, L::Op, L::Reply>,
+    root: &mut Post<L::Part, L::Op, L::Reply>,
     procs: u32,
     objects: usize,
     keep: Keep,

@@ -25,7 +25,7 @@ pub struct Sys<L: Layout> {
     layouts: Vec<L>,
     pub(crate) procs: u32,
     keep: Keep,
-    pub(crate) lane: Lane<L::Part>,
+    pub(crate) lane: Lane<L::Part, L::Op, L::Reply>,
 }
 
 impl<L: Layout> Model for Sys<L> {
@@ -74,7 +74,7 @@ impl<L: Layout> Sys<L> {
             (layouts_of L.Layout procs callers.items)
             layouts.items callers.items) }
     {
-        let Ok((line, mut root)) = Line::<L::Part>::with_rule(alloc) else {
+        let Ok((line, mut root)) = Line::<L::Part, L::Op, L::Reply>::with_rule(alloc) else {
             return Err(Memory);
         };
         let lane = Lane { line };

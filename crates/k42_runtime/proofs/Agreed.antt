@@ -2,6 +2,7 @@
 use Rattle.std.proofs.Common.{◌≡◌}
 use Rattle.k42_kinds.specs.LayoutLaws.{Agree}
 use Rattle.k42_kinds.specs.Objects.{plain_object}
+use Rattle.k42_kinds.specs.Watched.{seen_asking}
 use Rattle.k42_watch.specs.WatchLaws.{agree_watched, inner_same}
 use Rattle.co_any.specs.AnyLaws.{any_agrees}
 use Rattle.co_any.specs.BareLaws.{any_takes_no_seen}
@@ -12,6 +13,6 @@ pub watched_agrees : (l m : SystemLayout) → object_in l ≡ object_in m → ta
     → Agree (ways_in l) (ways_in m) (whole_in l) (whole_in m) (serves_in l) (serves_in m)
 watched_agrees l m same tags =
     let kind = l.inner.kind in let other = m.inner.kind in let tag = l.inner.tag in let tagged = m.inner.tag in
-    let inner : plain_object kind ≡ plain_object other = inner_same (plain_object kind) (plain_object other) (any_takes_no_seen kind) (any_takes_no_seen other) same in
-    agree_watched (ways_of kind tag) (ways_of other tagged) (whole_of kind tag) (whole_of other tagged) (serves_of kind tag) (serves_of other tagged) tag tagged tags
+    let inner : plain_object kind ≡ plain_object other = inner_same seen_asking (plain_object kind) (plain_object other) (any_takes_no_seen kind) (any_takes_no_seen other) same in
+    agree_watched seen_asking (ways_of kind tag) (ways_of other tagged) (whole_of kind tag) (whole_of other tagged) (serves_of kind tag) (serves_of other tagged) tag tagged tags
     (any_agrees kind other tag tagged inner tags)

@@ -67,8 +67,8 @@ few_cells tag procs p some = go (eqb tag 1) where
   go false lt = omega (arith, lt, some)
 
 -- a list with one number is that of one cell
-record IsSingle {P : Type 0} (cells : List (Content P)) (n : ℕ) : Type 0 where
-  cell : Content P
+record IsSingle {P : Type 0} (cells : List (Content P Op Reply)) (n : ℕ) : Type 0 where
+  cell : Content P Op Reply
   are : cells ≡ cell ∷ []
   number : cell.number ≡ n
 
@@ -76,58 +76,58 @@ abbrev first_of : List ℕ → ℕ
 first_of [] = 0
 first_of (n ∷ ns) = n
 
-single : {P : Type 0} (cells : List (Content P)) (n : ℕ) → numbers_of cells ≡ n ∷ [] → IsSingle cells n
+single : {P : Type 0} (cells : List (Content P Op Reply)) (n : ℕ) → numbers_of cells ≡ n ∷ [] → IsSingle cells n
 single [] n e = absurd (let long = ap length e in omega (arith, long))
 single (c ∷ []) n e = record { cell = c; are = refl; number = ap first_of e }
 single (c ∷ d ∷ cells) n e = absurd (let long = ap length e in omega (arith, long))
 
-only : {P : Type 0} (Q : Content P → Type 0) (c : Content P) → Q c → EachPlace (λ place x. Q x) (c ∷ [])
+only : {P : Type 0} (Q : Content P Op Reply → Type 0) (c : Content P Op Reply) → Q c → EachPlace (λ place x. Q x) (c ∷ [])
 only Q c q zero x e = subst Q (same_Some c x e) q
 only Q c q (suc place) x e = absurd (cc)
 
 -- a list of one is told what its cell is
-pub told_alone : {P : Type 0} (notes : List (Note P)) (x y : Content P) → IsTold notes x y → AreTold notes (x ∷ []) (y ∷ [])
+pub told_alone : {P : Type 0} (notes : List (Note P Op Reply)) (x y : Content P Op Reply) → IsTold notes x y → AreTold notes (x ∷ []) (y ∷ [])
 told_alone {P} notes x y is = (refl, each) where
-  each : (k : ℕ) (a b : Content P) → slice_get (x ∷ []) k ≡ Some a → slice_get (y ∷ []) k ≡ Some b → IsTold notes a b
-  each zero a b e f = subst (λ (z : Content P × Content P). IsTold notes z.0 z.1) (λ j. (same_Some x a e j, same_Some y b f j)) is
+  each : (k : ℕ) (a b : Content P Op Reply) → slice_get (x ∷ []) k ≡ Some a → slice_get (y ∷ []) k ≡ Some b → IsTold notes a b
+  each zero a b e f = subst (λ (z : Content P Op Reply × Content P Op Reply). IsTold notes z.0 z.1) (λ j. (same_Some x a e j, same_Some y b f j)) is
   each (suc k) a b e f = absurd (cc)
 
-module _ {S L P : Type 0} (F : Layouts S L P) (declared : List L) (layout : L) (op : Op) where
+module _ {S L P : Type 0} (F : Layouts S L P Op Reply) (declared : List L) (layout : L) (op : Op) where
   -- cells are taken of the row that it is inside
-  pub at_still : (reach : Reach) (cells others : List ℕ) (log : List Taken) (v w : PassView P) → released others w ≡ with_log log (released cells v)
+  pub at_still : (reach : Reach) (cells others : List ℕ) (log : List Taken) (v w : PassView P Op Reply) → released others w ≡ with_log log (released cells v)
       → IsCallAt F declared v layout reach op → IsCallAt F declared w layout reach op
   at_still reach cells others log v w e is = record {
-    served = ap (λ (x : PassView P). is_served x.visitor.place) e ∙ is.served;
-    few = subst (λ (x : PassView P). object_inside x < 16) (sym e) is.few;
+    served = ap (λ (x : PassView P Op Reply). is_served x.visitor.place) e ∙ is.served;
+    few = subst (λ (x : PassView P Op Reply). object_inside x < 16) (sym e) is.few;
     declaration = is.declaration;
-    declares = ap (λ (x : PassView P). slice_get declared (object_inside x)) e ∙ is.declares;
+    declares = ap (λ (x : PassView P Op Reply). slice_get declared (object_inside x)) e ∙ is.declares;
     same = is.same;
-    tagged = ap (λ (x : PassView P). x.layout) e ∙ is.tagged;
+    tagged = ap (λ (x : PassView P Op Reply). x.layout) e ∙ is.tagged;
     known = is.known;
-    on = subst (λ (x : PassView P). x.turn.proc < F.procs) (sym e) is.on;
+    on = subst (λ (x : PassView P Op Reply). x.turn.proc < F.procs) (sym e) is.on;
     takes = is.takes;
-    reaches = is.reaches ∙ ap (λ (x : PassView P). (F.ways_of layout).reach F.procs op x.turn.proc) (sym e);
+    reaches = is.reaches ∙ ap (λ (x : PassView P Op Reply). (F.ways_of layout).reach F.procs op x.turn.proc) (sym e);
     spread = is.spread;
   }
 
   -- the one cell is taken
-  pub has_alone : (p n : ℕ) (v w : PassView P) (cell : Content P) → n ≡ cell_of (object_inside v) (row_inside v) p → IsCallAt F declared v layout (One p) op
+  pub has_alone : (p n : ℕ) (v w : PassView P Op Reply) (cell : Content P Op Reply) → n ≡ cell_of (object_inside v) (row_inside v) p → IsCallAt F declared v layout (One p) op
       → HasTakenNext F declared n v w [] (cell ∷ []) → HasCells F declared w layout (One p) op (cell ∷ [])
   has_alone p n v w cell named is next = record {
     call = at_still (One p) [] (numbers_of (cell ∷ [])) w.log v w next.released_is is;
     numbers =
         next.numbers ∙ ap (λ m. m ∷ []) named
-        ∙ ap (λ (x : PassView P). cell_of (object_inside x) (row_inside x) p ∷ []) (sym next.released_is);
+        ∙ ap (λ (x : PassView P Op Reply). cell_of (object_inside x) (row_inside x) p ∷ []) (sym next.released_is);
     held = next.held;
     taken = next.taken;
     rows = next.rows;
     back = next.back;
   }
 
-module _ {S L P : Type 0} (F : Layouts S L P) (laws : AreLaws F) (declared : List L)
+module _ {S L P : Type 0} (F : Layouts S L P Op Reply) (laws : AreLaws F) (declared : List L)
     (agrees : (l m : L) → F.object_of l ≡ F.object_of m → F.tag_of l ≡ F.tag_of m
     → Agree (F.ways_of l) (F.ways_of m) (F.Whole l) (F.Whole m) (F.Serves l) (F.Serves m))
-    (v : PassView P) (layout : L) (reach : Reach) (op : Op) (cells : List (Content P)) (has : HasCells F declared v layout reach op cells)
+    (v : PassView P Op Reply) (layout : L) (reach : Reach) (op : Op) (cells : List (Content P Op Reply)) (has : HasCells F declared v layout reach op cells)
     (procs_few : F.procs ≤ 8) where
   abbrev o : ℕ
   o = object_inside v
@@ -135,7 +135,7 @@ module _ {S L P : Type 0} (F : Layouts S L P) (laws : AreLaws F) (declared : Lis
   abbrev i : ℕ
   i = row_inside v
 
-  abbrev ways : Ways S P
+  abbrev ways : Ways S P Op Reply
   ways = F.ways_of layout
 
   inside : IsInside v.visitor.place o i
@@ -172,7 +172,7 @@ module _ {S L P : Type 0} (F : Layouts S L P) (laws : AreLaws F) (declared : Lis
               (ap (names (cells_noted v.notes)) (sym one.number) ∙ here.noted)),
         )
 
-    stepped_one : (reply : Reply) (news : List (Content P)) → HasSteppedCells ways F.procs op (One p) reply cells news
+    stepped_one : (reply : Reply) (news : List (Content P Op Reply)) → HasSteppedCells ways F.procs op (One p) reply cells news
         → (reply ≡ ways.part_reply (due_in ways F.procs p one.cell) op) × (news ≡ stepped_at ways F.procs p op one.cell ∷ [])
     stepped_one reply news made = subst (λ cs. HasSteppedCells ways F.procs op (One p) reply cs news) one.are made
 
@@ -189,7 +189,7 @@ module _ {S L P : Type 0} (F : Layouts S L P) (laws : AreLaws F) (declared : Lis
     all_cells = ap (λ t. cells_of t F.procs) (has.call.spread e)
 
     all_long : length cells ≡ F.procs
-    all_long = sym (length-map cells (λ (content : Content P). content.number)) ∙ ap length all_numbers ∙ length_made (cell_of o i) 0 F.procs
+    all_long = sym (length-map cells (λ (content : Content P Op Reply). content.number)) ∙ ap length all_numbers ∙ length_made (cell_of o i) 0 F.procs
 
     noted_at : (p : ℕ) → p < cells_of (F.tag_of layout) F.procs → names (cells_noted v.notes) (cell_of o i p) ≡ true
     noted_at p lt =
@@ -247,7 +247,7 @@ module _ {S L P : Type 0} (F : Layouts S L P) (laws : AreLaws F) (declared : Lis
   pub may_give_taken : (id : ℕ) → MayGiveBack F declared id v cells
   may_give_taken id = may_give F declared laws id v cells once has.back has.held has.taken small
 
-  module _ (reply : Reply) (news : List (Content P)) (made : HasSteppedCells ways F.procs op reach reply cells news) where
+  module _ (reply : Reply) (news : List (Content P Op Reply)) (made : HasSteppedCells ways F.procs op reach reply cells news) where
     pub numbers_stepped : numbers_of news ≡ numbers_of cells
     numbers_stepped = go reach refl made where
       go : (r : Reach) → reach ≡ r → HasSteppedCells ways F.procs op r reply cells news → numbers_of news ≡ numbers_of cells
@@ -256,7 +256,7 @@ module _ {S L P : Type 0} (F : Layouts S L P) (laws : AreLaws F) (declared : Lis
 
     pub long_stepped : length news ≡ length cells
     long_stepped =
-        sym (length-map news (λ (content : Content P). content.number)) ∙ ap length numbers_stepped ∙ length-map cells (λ (content : Content P). content.number)
+        sym (length-map news (λ (content : Content P Op Reply). content.number)) ∙ ap length numbers_stepped ∙ length-map cells (λ (content : Content P Op Reply). content.number)
 
     held_stepped : AreHeld v.notes news
     held_stepped = go reach refl made where
@@ -274,8 +274,8 @@ module _ {S L P : Type 0} (F : Layouts S L P) (laws : AreLaws F) (declared : Lis
       go (One p) e made' =
           let is = stepped_one p e reply news made' in let due = due_is p e in (
             is.0 ∙ ap (λ part. ways.part_reply part op) due,
-            subst (EachPlace (λ place (content : Content P). content.part ≡ Some (ways.part_after (part_due ways F.procs v.notes o i p) op))) (sym is.1)
-                (only (λ (content : Content P). content.part ≡ Some (ways.part_after (part_due ways F.procs v.notes o i p) op)) (stepped_at ways F.procs p op (one p e).cell)
+            subst (EachPlace (λ place (content : Content P Op Reply). content.part ≡ Some (ways.part_after (part_due ways F.procs v.notes o i p) op))) (sym is.1)
+                (only (λ (content : Content P Op Reply). content.part ≡ Some (ways.part_after (part_due ways F.procs v.notes o i p) op)) (stepped_at ways F.procs p op (one p e).cell)
                 (ap (λ part. Some (ways.part_after part op)) due)),
           )
       go All e made' =
@@ -301,18 +301,18 @@ module _ {S L P : Type 0} (F : Layouts S L P) (laws : AreLaws F) (declared : Lis
     }
 
     -- once the entry is drawn
-    abbrev entry : Entry
+    abbrev entry : Entry Op Reply
     entry = entry_call v (numbers_of news) (Call op) (Replied reply)
 
-    abbrev w : PassView P
+    abbrev w : PassView P Op Reply
     w = drawn_at news entry v
 
-    part_is : (k : ℕ) (content : Content P) → slice_get news k ≡ Some content → part_noted w.notes content.number ≡ content.part
+    part_is : (k : ℕ) (content : Content P Op Reply) → slice_get news k ≡ Some content → part_noted w.notes content.number ≡ content.part
     part_is k content at =
         told_part (numbers_of news) entry (part_in news) v.notes content.number (held_stepped k content at).noted (each_named news k content at)
         ∙ part_at_once news k content (ap names_once numbers_stepped ∙ once) at
 
-    pub may_give_drawn : (id : ℕ) (log : List Taken) (told : List (Content P)) → AreTold w.notes news told → MayGiveBack F declared id (with_log log w) told
+    pub may_give_drawn : (id : ℕ) (log : List Taken) (told : List (Content P Op Reply)) → AreTold w.notes news told → MayGiveBack F declared id (with_log log w) told
     may_give_drawn id log told are =
         let same : numbers_of told ≡ numbers_of cells = told_numbers w.notes news told are ∙ numbers_stepped in
         record {
@@ -333,7 +333,7 @@ module _ {S L P : Type 0} (F : Layouts S L P) (laws : AreLaws F) (declared : Lis
               };
         }
 
-    pub has_made : (word : ℕ) (new : PassView P) → last_stamp v.taker.mine < entry.stamp → new ≡ took steps.Draw word 0 w → HasMade (numbers_of cells) op reply v new
+    pub has_made : (word : ℕ) (new : PassView P Op Reply) → last_stamp v.taker.mine < entry.stamp → new ≡ took steps.Draw word 0 w → HasMade (numbers_of cells) op reply v new
     has_made word new later e =
         let log = step_at steps.Draw word 0 ∷ v.log in
         record {
@@ -351,5 +351,5 @@ module _ {S L P : Type 0} (F : Layouts S L P) (laws : AreLaws F) (declared : Lis
                 found = None;
                 untold = [];
               })));
-          log = extends_as (ap (λ (x : PassView P). x.log) e) (extends_one (step_at steps.Draw word 0) v.log refl);
+          log = extends_as (ap (λ (x : PassView P Op Reply). x.log) e) (extends_one (step_at steps.Draw word 0) v.log refl);
         }

@@ -5,6 +5,8 @@ use Rattle.std.specs.Option.{unwrap_or, option_to_list}
 use Rattle.std.proofs.lemmas.List.{length-append}
 use Rattle.k42_board.specs.declared.cell.Content.{Content}
 use Rattle.k42_mediator.specs.Parts.{filled}
+use Rattle.k42_kinds.specs.declared.operation.Op.{Op}
+use Rattle.k42_kinds.specs.declared.operation.Reply.{Reply}
 
 abbrev first_of : {A : Type 0} → A → List A → A
 first_of none [] = none
@@ -24,7 +26,7 @@ some_taken k [] lt = absurd (omega (arith, lt))
 some_taken k (x ∷ xs) lt = omega arith
 
 -- the last of so many parts is that of the next cell
-pub last_filled : {P : Type 0} (k : ℕ) (row xs : List P) (x : P) (cell : Content P) (cells : List (Content P)) → k < length row
+pub last_filled : {P : Type 0} (k : ℕ) (row xs : List P) (x : P) (cell : Content P Op Reply) (cells : List (Content P Op Reply)) → k < length row
     → take (suc k) row ≡ xs ++ x ∷ [] → record cell { part = Some x } ∷ filled (drop (suc k) row) cells ≡ filled (drop k row) (cell ∷ cells)
 last_filled k [] xs x cell cells lt e = absurd (omega (arith, lt))
 last_filled zero (y ∷ row) [] x cell cells lt e = ap (λ z. record cell { part = Some z } ∷ filled row cells) (sym (ap (first_of x) e))
@@ -37,7 +39,7 @@ last_filled (suc k) (y ∷ row) [] x cell cells lt e = absurd (some row k (omega
 last_filled (suc k) (y ∷ row) (z ∷ xs) x cell cells lt e = last_filled k row xs x cell cells (omega (arith, lt)) (ap rest_of e)
 
 -- the cells of a row, of which the last of so many parts was popped
-pub set_behind : {P : Type 0} (k many len : ℕ) (row back xs : List P) (x : Option P) (cell new : Content P) (cells news : List (Content P))
+pub set_behind : {P : Type 0} (k many len : ℕ) (row back xs : List P) (x : Option P) (cell new : Content P Op Reply) (cells news : List (Content P Op Reply))
     → k < length row → many ≡ k + 1 → back ≡ take many row → len ≡ length back → (0 < len → IsSome x) → back ≡ xs ++ option_to_list x
     → new ≡ record cell { part = x } → news ≡ filled (drop many row) cells → new ∷ news ≡ filled (drop k row) (cell ∷ cells)
 set_behind k many len row back xs x cell new cells news lt long taken measured some items set rest =
@@ -61,7 +63,7 @@ own_again (Some part) empty is_own e = ap (λ b. cond b (Some part) None) e
 own_again None empty is_own e = ap (λ b. cond b (Some empty) None) e
 
 -- and where it was its own or none, it is as it was
-pub own_behind : {P : Type 0} (parts all back xs : List P) (own : Option P) (empty : P) (is_own : Bool) (x : Option P) (cell lifted new : Content P) (cells news : List (Content P)) (len : ℕ)
+pub own_behind : {P : Type 0} (parts all back xs : List P) (own : Option P) (empty : P) (is_own : Bool) (x : Option P) (cell lifted new : Content P Op Reply) (cells news : List (Content P Op Reply)) (len : ℕ)
     → all ≡ parts ++ unwrap_or own empty ∷ [] → back ≡ all → len ≡ length back → (0 < len → IsSome x) → back ≡ xs ++ option_to_list x
     → is_own ≡ is_some own → own ≡ cell.part → lifted ≡ record cell { part = None } → new ≡ record lifted { part = cond is_own x None } → news ≡ cells
     → new ∷ news ≡ cell ∷ cells

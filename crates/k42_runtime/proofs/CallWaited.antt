@@ -32,10 +32,10 @@ pub record IsCalling (system : SystemSeen) (first now : SystemPass) : Type 0 whe
   pub kept : IsWorn first.view → now ≡ first
 
 module _ {P : Type 0} where
-  pub same_seat : (pass : PassSeen P) → IsSameSeat pass pass
+  pub same_seat : (pass : PassSeen P Op Reply) → IsSameSeat pass pass
   same_seat pass = record { table = refl; seat = refl; keep = refl; room = λ none. refl; row_room = refl; queue = refl }
 
-  pub same_seat_on : (first now new : PassSeen P) → IsSameSeat first now → IsSameSeat now new → IsSameSeat first new
+  pub same_seat_on : (first now new : PassSeen P Op Reply) → IsSameSeat first now → IsSameSeat now new → IsSameSeat first new
   same_seat_on first now new one two = record {
     table = two.table ∙ one.table;
     seat = two.seat ∙ one.seat;
@@ -45,19 +45,19 @@ module _ {P : Type 0} where
     queue = two.queue ∙ one.queue;
   }
 
-  pub keeps_on : (u v w : PassView P) → KeepsElse u v → KeepsElse v w → KeepsElse u w
+  pub keeps_on : (u v w : PassView P Op Reply) → KeepsElse u v → KeepsElse v w → KeepsElse u w
   keeps_on u v w first second =
       second
       ∙ ap (λ (own : Own). record own { place = w.visitor.place; layout = w.layout; drawn = length w.taker.mine; clock = w.taker.clock })
       first
 
-  pub not_called : (v : PassView P) → HasNotCalled v v
+  pub not_called : (v : PassView P Op Reply) → HasNotCalled v v
   not_called v = record { same = refl; clock = refl; keeps = refl }
 
-  pub not_called_on : (u v w : PassView P) → HasNotCalled u v → HasNotCalled v w → HasNotCalled u w
+  pub not_called_on : (u v w : PassView P Op Reply) → HasNotCalled u v → HasNotCalled v w → HasNotCalled u w
   not_called_on u v w first second = record { same = second.same ∙ first.same; clock = second.clock ∙ first.clock; keeps = keeps_on u v w first.keeps second.keeps }
 
-  pub called_on : (u v w : PassView P) (object : ℕ) (op : Op) (reply : Reply) → HasNotCalled u v → HasCalled object op reply v w → HasCalled object op reply u w
+  pub called_on : (u v w : PassView P Op Reply) (object : ℕ) (op : Op) (reply : Reply) → HasNotCalled u v → HasCalled object op reply v w → HasCalled object op reply u w
   called_on u v w object op reply first then = record {
     entry = then.entry;
     drawn = then.drawn ∙ ap (λ mine. mine ++ then.entry ∷ []) first.same;

@@ -6,6 +6,8 @@ use Rattle.std.proofs.lemmas.List.Elements.{All-from_recursion}
 use Rattle.std.proofs.lemmas.List.{length-map}
 use Rattle.std.proofs.lemmas.Option.{same_Some, slice_get_within, slice_get-get_or}
 use Rattle.k42_limits.specs.declared.TheConstants.{CALLERS}
+use Rattle.k42_kinds.specs.declared.operation.Op.{Op}
+use Rattle.k42_kinds.specs.declared.operation.Reply.{Reply}
 use Rattle.k42_kinds.specs.declared.entry.Entry.{Entry}
 use Rattle.k42_places.specs.Places.{EachPlace}
 use Rattle.k42_stamp.specs.Lists.{IsListOf, AreLists, IsMerged, numbered_from}
@@ -31,51 +33,51 @@ use Rattle.k42_runtime.specs.Systems.{SystemSeen, IsPlanned, any_with, layouts_i
 use Rattle.k42_runtime.proofs.Traces.{legal, all_placed}
 
 -- the list of a caller is what it drew
-mine_at : (callers : List Caller) (c : ℕ) (list : List Entry) → slice_get (map (λ (x : Caller). x.mine) callers) c ≡ Some list
+mine_at : (callers : List (Caller Op Reply)) (c : ℕ) (list : List (Entry Op Reply)) → slice_get (map (λ (x : Caller Op Reply). x.mine) callers) c ≡ Some list
     → (slice_index_or callers c fresh_caller).mine ≡ list
 mine_at [] c list at = absurd (cc)
 mine_at (x ∷ callers) zero list at = same_Some x.mine list at
 mine_at (x ∷ callers) (suc c) list at = mine_at callers c list at
 
 -- so its stamps rise, and its entries are its own
-pub each_all : (P : Entry → Type 0) (entries : List Entry) → EachPlace (λ i entry. P entry) entries → AllByRecursion P entries
+pub each_all : (P : Entry Op Reply → Type 0) (entries : List (Entry Op Reply)) → EachPlace (λ i entry. P entry) entries → AllByRecursion P entries
 each_all P [] each = tt
 each_all P (entry ∷ entries) each = (each 0 entry refl, each_all P entries (λ i. each (suc i)))
 
-ordered : (entries : List Entry) → IsRising entries → Ordered (λ (one other : Entry). one.stamp < other.stamp) entries
+ordered : (entries : List (Entry Op Reply)) → IsRising entries → Ordered (λ (one other : Entry Op Reply). one.stamp < other.stamp) entries
 ordered [] rising = tt
 ordered (entry ∷ entries) rising = (
-  each_all (λ (other : Entry). entry.stamp < other.stamp) entries (λ i other at. rising 0 (suc i) entry other (omega arith) refl at),
+  each_all (λ (other : Entry Op Reply). entry.stamp < other.stamp) entries (λ i other at. rising 0 (suc i) entry other (omega arith) refl at),
   ordered entries (λ i j one other less here there. rising (suc i) (suc j) one other (omega (arith, less)) here there),
 )
 
-pub lists_are : {S L P : Type 0} (F : Layouts S L P) (declared : List L) (callers : ℕ) (lists : List (List Entry)) → AreLastLists F declared callers lists
+pub lists_are : {S L P : Type 0} (F : Layouts S L P Op Reply) (declared : List L) (callers : ℕ) (lists : List (List (Entry Op Reply))) → AreLastLists F declared callers lists
     → AreLists lists
 lists_are F declared callers lists last c list at =
-    let drawn = ap (λ (ls : List (List Entry)). slice_get ls c) (sym last.drawn) ∙ at in
+    let drawn = ap (λ (ls : List (List (Entry Op Reply))). slice_get ls c) (sym last.drawn) ∙ at in
     let there : c < length last.state.turns.callers =
-    subst (λ n. c < n) (length-map last.state.turns.callers (λ (x : Caller). x.mine)) (slice_get_within (lists_of last.state) c list drawn) in
+    subst (λ n. c < n) (length-map last.state.turns.callers (λ (x : Caller Op Reply). x.mine)) (slice_get_within (lists_of last.state) c list drawn) in
     let x = slice_index_or last.state.turns.callers c fresh_caller in
     let is = last.sound.cells.turns.callers c x (slice_get-get_or last.state.turns.callers c fresh_caller there) in
     subst (IsListOf c) (mine_at last.state.turns.callers c list drawn)
     (record {
       rising = ordered x.mine is.rising;
-      own = each_all (λ (entry : Entry). entry.caller ≡ c) x.mine (λ i entry here. (is.own i entry here).caller);
+      own = each_all (λ (entry : Entry Op Reply). entry.caller ≡ c) x.mine (λ i entry here. (is.own i entry here).caller);
     })
 
 -- no other caller has an entry
-below : (limit n : ℕ) (entries : List Entry) → ((entry : Entry) → In entry entries → entry.caller < limit) → AllByRecursion (λ (entry : Entry). entry.caller < limit) (numbered_from n entries)
+below : (limit n : ℕ) (entries : List (Entry Op Reply)) → ((entry : Entry Op Reply) → In entry entries → entry.caller < limit) → AllByRecursion (λ (entry : Entry Op Reply). entry.caller < limit) (numbered_from n entries)
 below limit n [] each = tt
 below limit n (entry ∷ entries) each = (each entry (inl refl), below limit (suc n) entries (λ other is. each other (inr is)))
 
-pub no_stranger : (lists : List (List Entry)) (merged : List Entry) → AreLists lists → IsMerged lists merged → All (λ (entry : Entry). entry.caller < length lists) merged
+pub no_stranger : (lists : List (List (Entry Op Reply))) (merged : List (Entry Op Reply)) → AreLists lists → IsMerged lists merged → All (λ (entry : Entry Op Reply). entry.caller < length lists) merged
 no_stranger lists merged are is =
-    subst (All (λ (entry : Entry). entry.caller < length lists)) (sym is.numbered)
-    (All-from_recursion (λ (entry : Entry). entry.caller < length lists) (numbered_from 1 is.trace) (below (length lists) 1 is.trace each)) where
-      each : (entry : Entry) → In entry is.trace → entry.caller < length lists
+    subst (All (λ (entry : Entry Op Reply). entry.caller < length lists)) (sym is.numbered)
+    (All-from_recursion (λ (entry : Entry Op Reply). entry.caller < length lists) (numbered_from 1 is.trace) (below (length lists) 1 is.trace each)) where
+      each : (entry : Entry Op Reply) → In entry is.trace → entry.caller < length lists
       each entry has =
           let some = is.just.only entry has in
-          let own = all_at (λ (e : Entry). e.caller ≡ some.place) some.list entry (are some.place some.list some.there).own some.has in
+          let own = all_at (λ (e : Entry Op Reply). e.caller ≡ some.place) some.list entry (are some.place some.list some.there).own some.has in
           let lt = slice_get_within lists some.place some.list some.there in omega (arith, own, lt)
 
 -- a state in which everybody rests is at rest
@@ -93,14 +95,14 @@ unnamed (Opening p q) o idle named = absurd (cc)
 unnamed (Reopening p q) o idle named = absurd (cc)
 unnamed (Opened p) o idle named = absurd (cc)
 
-rests : {L : Type 0} (s : Joined L) (callers : ℕ) → many_callers s ≡ callers → ((c : ℕ) → c < callers → IsResting s c) → IsAtRest s
+rests : {L : Type 0} (s : Joined L Op Reply) (callers : ℕ) → many_callers s ≡ callers → ((c : ℕ) → c < callers → IsResting s c) → IsAtRest s
 rests s callers many each c o lt named = absurd (unnamed (swap_of s c) o (each c (subst (λ n. c < n) many lt)).swap named)
 
 -- what closing needs of the law
 abbrev pub TraceLaw : ℕ → Type 0
 TraceLaw procs =
     (proc_of : ℕ → ℕ) → ((caller : ℕ) → proc_of caller < procs)
-    → (declared : List SystemLayout) (s : Joined SystemLayout) (merged : List Entry)
+    → (declared : List SystemLayout) (s : Joined SystemLayout Op Reply) (merged : List (Entry Op Reply))
     → IsSound (any_with procs proc_of) declared s → IsAtRest s → IsMerged (lists_of s) merged → IsHistoryOf (any_with procs proc_of) declared s merged
 
 -- the table asks it of its own callers, which are the plan's
@@ -118,7 +120,7 @@ come_back passes given len is all =
     let many : len ≡ length given = all ∙ sym (ap length is ∙ length-map passes with_none) in
     subst (λ n. take n (given ++ drop (length given) passes) ≡ given) (sym many) (take-append_seam given (drop (length given) passes)) ∙ is
 
-pub closed : (system : SystemSeen) → IsPlanned system → TraceLaw system.sys.procs → (lists : List (List Entry)) (merged : List Entry)
+pub closed : (system : SystemSeen) → IsPlanned system → TraceLaw system.sys.procs → (lists : List (List (Entry Op Reply))) (merged : List (Entry Op Reply))
     → AreLastLists (layouts_in system) system.sys.layouts (length system.sys.callers) lists → IsMerged lists merged
     → IsClosed system.plan lists (record { entries = merged; plan = system.plan })
 closed system planned law lists merged last is = record {
@@ -127,11 +129,11 @@ closed system planned law lists merged last is = record {
   legal = legal system.plan merged (subst (λ declared. IsLegalHistoryOf object_in declared merged) planned.layouts history.legal);
   in_order = λ c list at. in_order c list at;
   no_stranger =
-      subst (λ n. All (λ (entry : Entry). entry.caller < n) merged)
+      subst (λ n. All (λ (entry : Entry Op Reply). entry.caller < n) merged)
       (many ∙ ap length planned.callers)
       (no_stranger lists merged (lists_are (layouts_in system) system.sys.layouts (length system.sys.callers) lists last) is);
 } where
-  s : Joined SystemLayout
+  s : Joined SystemLayout Op Reply
   s = last.state
 
   history : IsHistoryOf (layouts_in system) system.sys.layouts s merged
@@ -140,9 +142,9 @@ closed system planned law lists merged last is = record {
       (rests s (length system.sys.callers) last.many last.resting) (subst (λ ls. IsMerged ls merged) last.drawn is)
 
   many : length lists ≡ length system.sys.callers
-  many = ap length last.drawn ∙ length-map s.turns.callers (λ (x : Caller). x.mine) ∙ last.sound.cells.locks.many.callers ∙ last.many
+  many = ap length last.drawn ∙ length-map s.turns.callers (λ (x : Caller Op Reply). x.mine) ∙ last.sound.cells.locks.many.callers ∙ last.many
 
-  in_order : (c : ℕ) (list : List Entry) → slice_get lists c ≡ Some list → IsInOrder merged c list
+  in_order : (c : ℕ) (list : List (Entry Op Reply)) → slice_get lists c ≡ Some list → IsInOrder merged c list
   in_order c list at =
       let lt = slice_get_within lists c list at in
       let there : c < many_callers s = subst (λ n. c < n) (many ∙ sym last.many) lt in
@@ -150,9 +152,9 @@ closed system planned law lists merged last is = record {
 
 -- and a history there is, whether anybody has merged the lists or not
 abbrev pub MergeLaw : Type 0
-MergeLaw = (lists : List (List Entry)) → AreLists lists → (merged : List Entry) × IsMerged lists merged
+MergeLaw = (lists : List (List (Entry Op Reply))) → AreLists lists → (merged : List (Entry Op Reply)) × IsMerged lists merged
 
-pub has_history : (system : SystemSeen) → IsPlanned system → TraceLaw system.sys.procs → MergeLaw → (lists : List (List Entry))
+pub has_history : (system : SystemSeen) → IsPlanned system → TraceLaw system.sys.procs → MergeLaw → (lists : List (List (Entry Op Reply)))
     → AreLastLists (layouts_in system) system.sys.layouts (length system.sys.callers) lists → HasHistory system.plan lists
 has_history system planned law merges lists last =
     let merge = merges lists (lists_are (layouts_in system) system.sys.layouts (length system.sys.callers) lists last) in

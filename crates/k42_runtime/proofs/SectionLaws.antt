@@ -4,6 +4,8 @@ use Rattle.std.proofs.Math.Seq.{take-append_seam}
 use Rattle.std.proofs.lemmas.List.{take_all}
 use Rattle.atomic_table.specs.Table.{State}
 use Rattle.k42_kinds.specs.Legal.{IsLegalHistory}
+use Rattle.k42_kinds.specs.declared.operation.Op.{Op}
+use Rattle.k42_kinds.specs.declared.operation.Reply.{Reply}
 use Rattle.k42_kinds.specs.declared.entry.Entry.{Entry}
 use Rattle.k42_places.specs.Places.{EachPlace}
 use Rattle.k42_places.proofs.EachPlaces.{EachPlace-map}
@@ -25,10 +27,10 @@ use Rattle.k42_runtime.proofs.Closed.{TraceLaw, at_rest, closed}
 
 -- what is needed of the law that a merge is one
 abbrev pub OnceLaw : Type 0
-OnceLaw = (first : ℕ) (lists : List (List Entry)) (one other : List Entry) → IsMergedFrom first lists one → IsMergedFrom first lists other → one ≡ other
+OnceLaw = (first : ℕ) (lists : List (List (Entry Op Reply))) (one other : List (Entry Op Reply)) → IsMergedFrom first lists one → IsMergedFrom first lists other → one ≡ other
 
 -- lists without entries merge to none
-none_merged : (lists : List (List Entry)) → EachPlace (λ place list. list ≡ []) lists → IsMerged lists []
+none_merged : (lists : List (List (Entry Op Reply))) → EachPlace (λ place list. list ≡ []) lists → IsMerged lists []
 none_merged lists none = record {
   trace = [];
   just = record {
@@ -56,7 +58,7 @@ fronts_since (pass ∷ raised) (then ∷ later) on =
     let others = fronts_since raised later (record { many = omega (arith, many); each = λ c one other. on.each (suc c) one other }) in
     λ i. here i ∷ others i
 
-pub laid_out : OnceLaw → (sections : List (List Entry)) (passes : List SystemPass) → HaveGiven sections passes → IsMerged (fronts_in passes) (end_to_end sections)
+pub laid_out : OnceLaw → (sections : List (List (Entry Op Reply))) (passes : List SystemPass) → HaveGiven sections passes → IsMerged (fronts_in passes) (end_to_end sections)
 laid_out once [] passes none =
     none_merged (fronts_in passes)
     (EachPlace-map (λ c list. list ≡ []) (λ (pass : SystemPass). take pass.keep.given pass.view.taker.mine) passes
@@ -71,31 +73,31 @@ laid_out once (section ∷ sections) passes given =
     fronts_since raised passes (subst (λ (ps : List SystemPass). HaveDrawnOn ps passes) is.passes on) ∙ ap (λ (ps : List SystemPass). lists_in ps) (sym is.passes) in
     let same : is.before ≡ end_to_end sections = once 1 (fronts_in old) is.before (end_to_end sections) is.fronts (laid_out once sections old given.2) in
     subst (λ lists. IsMerged lists (end_to_end sections ++ section)) (sym fronts)
-    (subst (λ (so_far : List Entry). IsMerged (lists_in new) (so_far ++ section)) same is.whole)
+    (subst (λ (so_far : List (Entry Op Reply)). IsMerged (lists_in new) (so_far ++ section)) same is.whole)
 
 -- a pass that has given all has given all that it has drawn
 all_given : (raised : List SystemPass) → fronts_in (map given_all raised) ≡ lists_in (map given_all raised)
 all_given [] = refl
 all_given (pass ∷ raised) = λ i. take_all (length pass.view.taker.mine) pass.view.taker.mine (omega arith) i ∷ all_given raised i
 
-pub none_left : (old new : List SystemPass) (section : List Entry) → IsSection old new section → fronts_in new ≡ lists_in new
+pub none_left : (old new : List SystemPass) (section : List (Entry Op Reply)) → IsSection old new section → fronts_in new ≡ lists_in new
 none_left old new section is =
     ap (λ (ps : List SystemPass). fronts_in ps) is.passes
     ∙ all_given (map (skipped (greatest_clock (views_of old))) old)
     ∙ ap (λ (ps : List SystemPass). lists_in ps) (sym is.passes)
 
-pub all_make_it : OnceLaw → (plan : PlanSeen) (sections : List (List Entry)) (old new : List SystemPass) (section : List Entry) → HaveGiven sections old
+pub all_make_it : OnceLaw → (plan : PlanSeen) (sections : List (List (Entry Op Reply))) (old new : List SystemPass) (section : List (Entry Op Reply)) → HaveGiven sections old
     → IsSection old new section → HasHistory plan (lists_in new) → IsClosed plan (lists_in new) (record { entries = end_to_end sections ++ section; plan = plan })
 all_make_it once plan sections old new section given is has =
     let same : is.before ≡ end_to_end sections = once 1 (fronts_in old) is.before (end_to_end sections) is.fronts (laid_out once sections old given) in
-    let whole : IsMerged (lists_in new) (end_to_end sections ++ section) = subst (λ (so_far : List Entry). IsMerged (lists_in new) (so_far ++ section)) same is.whole in
+    let whole : IsMerged (lists_in new) (end_to_end sections ++ section) = subst (λ (so_far : List (Entry Op Reply)). IsMerged (lists_in new) (so_far ++ section)) same is.whole in
     let entries : has.0.entries ≡ end_to_end sections ++ section = once 1 (lists_in new) has.0.entries (end_to_end sections ++ section) has.1.merged whole in
     let history : has.0 ≡ record { entries = end_to_end sections ++ section; plan = plan } = λ i. record { entries = entries i; plan = has.1.plan_is i } in
     subst (IsClosed plan (lists_in new)) history has.1
 
 pub sections_legal : (system : SystemSeen) → IsPlanned system → TraceLaw system.sys.procs
-    → (old passes : List SystemPass) (section : List Entry) (is : IsSection old passes section) → MayEnd system passes
-    → (table : State (Slot SystemPart) (View SystemPart)) → Ruled (layouts_in system) system.sys.layouts (length system.sys.callers) table → AreShown table passes
+    → (old passes : List SystemPass) (section : List (Entry Op Reply)) (is : IsSection old passes section) → MayEnd system passes
+    → (table : State (Slot SystemPart Op Reply) (View SystemPart Op Reply)) → Ruled (layouts_in system) system.sys.layouts (length system.sys.callers) table → AreShown table passes
     → IsLegalHistory (kinds_of system.plan) (is.before ++ section)
 sections_legal system planned law old passes section is may table ruled shown =
     let last = last_seated (layouts_in system) system.sys.layouts system.sys passes (at_rest system passes planned may) table ruled shown in

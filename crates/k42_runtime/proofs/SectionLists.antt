@@ -1,6 +1,8 @@
 -- A section of the passes' lists, and the passes after it.
 use Rattle.std.proofs.Common.{◌≡◌, ℕ, ◌+◌, List, ◌++◌, length, map, sym, ap, ◌∙◌, subst}
 use Rattle.std.proofs.lemmas.List.{length-map}
+use Rattle.k42_kinds.specs.declared.operation.Op.{Op}
+use Rattle.k42_kinds.specs.declared.operation.Reply.{Reply}
 use Rattle.k42_kinds.specs.declared.entry.Entry.{Entry}
 use Rattle.k42_places.specs.Places.{EachPlace}
 use Rattle.k42_places.proofs.EachPlaces.{EachPlace-map}
@@ -40,10 +42,10 @@ may_again system passes may =
 -- the law that sections merge to the whole
 abbrev pub JoinLaw : Type 0
 JoinLaw =
-    (last : ℕ) (lists fronts rests : List (List Entry)) (before section : List Entry) → AreCutAt last lists fronts rests → IsMerged fronts before
+    (last : ℕ) (lists fronts rests : List (List (Entry Op Reply))) (before section : List (Entry Op Reply)) → AreCutAt last lists fronts rests → IsMerged fronts before
     → IsMergedFrom (length before + 1) rests section → IsMerged lists (before ++ section)
 
-pub is_section : (passes new : List SystemPass) (section : List Entry) (first : ℕ) → MergeLaw → JoinLaw → AreCut passes
+pub is_section : (passes new : List SystemPass) (section : List (Entry Op Reply)) (first : ℕ) → MergeLaw → JoinLaw → AreCut passes
     → first ≡ entries_in (fronts_in passes) + 1 → IsMergedFrom first (rests_in passes) section → new ≡ sectioned passes → IsSection passes new section
 is_section passes new section first merges joins cut numbered merged is =
     let merge = merges (fronts_in passes) cut.fronts in

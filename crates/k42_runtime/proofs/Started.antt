@@ -15,6 +15,8 @@ use Rattle.k42_rule.specs.Opened.{IsOpened}
 use Rattle.k42_runtime.specs.Plans.{PlanSeen, IsSoundPlan}
 use Rattle.k42_runtime.specs.Systems.{IsPlanned, IsFirst, HasStarted, any_layouts, layout_of, layouts_of, tag_in, SystemPart, SystemLayout, SystemPass}
 use Rattle.k42_runtime.specs.declared.plan.ObjectPlan.{ObjectPlan}
+use Rattle.k42_kinds.specs.declared.operation.Op.{Op}
+use Rattle.k42_kinds.specs.declared.operation.Reply.{Reply}
 
 low : (layout : LayoutName) → tag_named layout ≤ 1
 low Shared = omega arith
@@ -55,9 +57,9 @@ started plan sys passes sound is keeps opened = record {
       let dealt = is.dealt.each c pass at in record {
         here = record {
           ours = is.passes_are c pass at;
-          out = ap (λ (v : PassView SystemPart). is_out v.visitor.place) dealt.new;
-          held = ap (λ (v : PassView SystemPart). v.taker.held) dealt.new;
-          notes = ap (λ (v : PassView SystemPart). v.notes) dealt.new;
+          out = ap (λ (v : PassView SystemPart Op Reply). is_out v.visitor.place) dealt.new;
+          held = ap (λ (v : PassView SystemPart Op Reply). v.taker.held) dealt.new;
+          notes = ap (λ (v : PassView SystemPart Op Reply). v.notes) dealt.new;
         };
         new = dealt.new ∙ ap (λ n. new_pass plan.procs n c (slice_index plan.callers c)) (length-map plan.objects layout_of);
         rows = dealt.rows;

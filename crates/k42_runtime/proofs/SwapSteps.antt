@@ -1,5 +1,7 @@
 -- A swap that is stepped on: what its steps bring, seen from a step before.
 use Rattle.std.proofs.Common.{◌≡◌, ⊎_elim, inl, inr, ◌↔◌, ℕ, ◌+◌, ◌<◌, ◌≤◌, [], ◌∷◌, ◌++◌, None, length, refl, sym, ap, ◌∙◌, subst, arith}
+use Rattle.k42_kinds.specs.declared.operation.Op.{Op}
+use Rattle.k42_kinds.specs.declared.operation.Reply.{Reply}
 use Rattle.k42_kinds.specs.declared.entry.Act.{Act}
 use Rattle.k42_kinds.specs.declared.entry.Answer.{Answer}
 use Rattle.k42_kinds.specs.declared.entry.Entry.{Entry}
@@ -20,15 +22,15 @@ use Rattle.k42_runtime.specs.declared.swaps.Step.TheVariants.{Again, Ended, Memo
 use Rattle.k42_runtime.specs.declared.swaps.Swapped.{Swapped}
 use Rattle.k42_kinds.specs.declared.entry.To.{To}
 
-pub same_caller : {P : Type 0} (u v w : PassView P) → IsSameCaller u v → IsSameCaller v w → IsSameCaller u w
+pub same_caller : {P : Type 0} (u v w : PassView P Op Reply) → IsSameCaller u v → IsSameCaller v w → IsSameCaller u w
 same_caller u v w first second = record {
   number = second.number ∙ first.number;
   proc = second.proc ∙ first.proc;
 }
 
 -- of a pass that has drawn nothing in between
-module _ {P : Type 0} (u v w : PassView P) (same : IsSameCaller u v) (drawn : v.taker.mine ≡ u.taker.mine) where
-  next_before : (object incarnation cell : ℕ) (act : Act) (answer : Answer) (entry : Entry) → IsNext v object incarnation cell act answer entry
+module _ {P : Type 0} (u v w : PassView P Op Reply) (same : IsSameCaller u v) (drawn : v.taker.mine ≡ u.taker.mine) where
+  next_before : (object incarnation cell : ℕ) (act : Act Op) (answer : Answer Reply) (entry : Entry Op Reply) → IsNext v object incarnation cell act answer entry
       → IsNext u object incarnation cell act answer entry
   next_before object incarnation cell act answer entry next = record {
     later = subst (λ mine. last_stamp mine < entry.stamp) drawn next.later;
@@ -69,7 +71,7 @@ module _ {P : Type 0} (u v w : PassView P) (same : IsSameCaller u v) (drawn : v.
   }
 
 -- what has held it up, seen from before steps that met nothing
-held_before : {P : Type 0} (cause : Cause) (old mid new : PassView P) → Extends old.log mid.log → IsHeldUpBy cause mid new → IsHeldUpBy cause old new
+held_before : {P : Type 0} (cause : Cause) (old mid new : PassView P Op Reply) → Extends old.log mid.log → IsHeldUpBy cause mid new → IsHeldUpBy cause old new
 held_before (causes.Left proc left) old mid new free is =
     record { at = is.at; there = is.there; some = is.some; exits = is.exits; looked = ends_on free is.looked; short = is.short; few = is.few }
 held_before (causes.RoleHeld holder) old mid new free is = record { tried = ends_on free is.tried; another = is.another; caller = is.caller }
@@ -78,7 +80,7 @@ held_before (causes.CellHeld holder) old mid new free is =
     record { over = is.over; locked = ends_on free is.locked; another = is.another; caller = is.caller }
 
 -- what a pass logs that is held up follows what it had logged
-pub held_follows : {P : Type 0} (cause : Cause) (old new : PassView P) → IsHeldUpBy cause old new → Follows old.log new.log
+pub held_follows : {P : Type 0} (cause : Cause) (old new : PassView P Op Reply) → IsHeldUpBy cause old new → Follows old.log new.log
 held_follows (causes.Left proc left) old new is = ends_follows is.looked
 held_follows (causes.RoleHeld holder) old new is = ends_follows is.tried
 held_follows (causes.InFlight count) old new is = ends_follows is.moved
@@ -88,7 +90,7 @@ pub fewer : (a b c : ℕ) → b ≤ a → c ≤ b → c ≤ a
 fewer a b c first second = omega (arith, first, second)
 
 -- by steps that draw nothing, whatever they met
-pub record HasComeOn {P : Type 0} (s t : SwapSeen) (old new : PassSeen P) : Type 0 where
+pub record HasComeOn {P : Type 0} (s t : SwapSeen) (old new : PassSeen P Op Reply) : Type 0 where
   pub object : t.object ≡ s.object
   pub to : t.to ≡ s.to
   pub seat : new.seat ≡ old.seat
@@ -100,7 +102,7 @@ pub record HasComeOn {P : Type 0} (s t : SwapSeen) (old new : PassSeen P) : Type
   pub waits : t.stage ≡ New → (s.stage ≡ New) × (new ≡ old)
   pub worn : s.stage ≡ New → IsWornOut old.view → t.stage ≡ New
 
-come_on : {P : Type 0} (s t : SwapSeen) (old new : PassSeen P) → HasGoneOn s t old new → HasComeOn s t old new
+come_on : {P : Type 0} (s t : SwapSeen) (old new : PassSeen P Op Reply) → HasGoneOn s t old new → HasComeOn s t old new
 come_on s t old new goes = record {
   object = goes.object;
   to = goes.to;

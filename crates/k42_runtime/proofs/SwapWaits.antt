@@ -15,6 +15,8 @@ use Rattle.k42_runtime.specs.declared.swaps.Stage.TheVariants as stages
 use Rattle.k42_runtime.specs.declared.swaps.Step.{Step}
 use Rattle.k42_runtime.specs.declared.swaps.Step.TheVariants.{Again, Ended, Memory, Worn}
 use Rattle.k42_runtime.specs.declared.swaps.Swapped.{Swapped}
+use Rattle.k42_kinds.specs.declared.operation.Op.{Op}
+use Rattle.k42_kinds.specs.declared.operation.Reply.{Reply}
 use Rattle.k42_kinds.specs.declared.entry.To.{To}
 use Rattle.k42_runtime.proofs.SwapSteps.{HasComeOn, held_follows, same_caller, fewer, swapped_since, memory_since, worn_before}
 
@@ -69,7 +71,7 @@ stepped_again system s m t old mid new cause is step =
       };
     }
 
-pub rests_over : {P : Type 0} (stage : Stage) (objects : ℕ) (t : SwapSeen) (new : PassSeen P) → is_over stage ≡ true → IsAtStage stage objects t new
+pub rests_over : {P : Type 0} (stage : Stage) (objects : ℕ) (t : SwapSeen) (new : PassSeen P Op Reply) → is_over stage ≡ true → IsAtStage stage objects t new
     → IsAtRest new.view
 rests_over stages.Over objects t new e is = is
 rests_over stages.New objects t new e is = absurd (cc)
@@ -78,11 +80,11 @@ rests_over stages.Shut objects t new e is = absurd (cc)
 rests_over stages.Marking objects t new e is = absurd (cc)
 
 -- nothing was begun
-pub not_begun : {P : Type 0} (v w : PassView P) (rows : List Row) (granted : ℕ) → w ≡ record v { rows = rows; granted = granted } → HasNotBegun v w
+pub not_begun : {P : Type 0} (v w : PassView P Op Reply) (rows : List Row) (granted : ℕ) → w ≡ record v { rows = rows; granted = granted } → HasNotBegun v w
 not_begun v w rows granted e =
-    e ∙ (λ j. record v { rows = sym (ap (λ (u : PassView _). u.rows) e) j; granted = sym (ap (λ (u : PassView _). u.granted) e) j })
+    e ∙ (λ j. record v { rows = sym (ap (λ (u : PassView _ Op Reply). u.rows) e) j; granted = sym (ap (λ (u : PassView _ Op Reply). u.granted) e) j })
 
-out_of_memory : {P : Type 0} (stage : Stage) (object : ℕ) (to : To) (v w : PassView P) → StepsWithoutMemory stage object to v w → EndsWithoutMemory object to v w
+out_of_memory : {P : Type 0} (stage : Stage) (object : ℕ) (to : To) (v w : PassView P Op Reply) → StepsWithoutMemory stage object to v w → EndsWithoutMemory object to v w
 out_of_memory stage object to v w =
     ⊎_elim (λ (is : (stage ≡ stages.New) × (w ≡ v)). inl (not_begun v w v.rows v.granted is.1)) (λ (is : HasAbandoned object to v w). inr is)
 

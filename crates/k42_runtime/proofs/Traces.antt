@@ -6,6 +6,8 @@ use Rattle.std.proofs.lemmas.Option.{slice_get-map}
 use Rattle.k42_kinds.specs.Histories.{AtEachPlace}
 use Rattle.k42_kinds.specs.Legal.{IsSoFarAmongObjects, IsLegalAmongObjects, IsLegalHistoryOf, IsLegalHistory}
 use Rattle.k42_kinds.specs.Watched.{watched_object}
+use Rattle.k42_kinds.specs.declared.operation.Op.{Op}
+use Rattle.k42_kinds.specs.declared.operation.Reply.{Reply}
 use Rattle.k42_kinds.specs.declared.entry.Entry.{Entry}
 use Rattle.k42_kinds.specs.declared.operation.KindName.{KindName}
 use Rattle.atomic_table.specs.Table.{State}
@@ -35,7 +37,7 @@ kind_at plan o layout is =
     ap (λ kinds. slice_get kinds o) (kinds_in plan.objects) ∙ slice_get-map kind_in (layouts_of plan) o ∙ ap (option_map kind_in) is
 
 module _ (plan : PlanSeen) where
-  pub so_far : (before : List Entry) (entry : Entry) (after : List Entry)
+  pub so_far : (before : List (Entry Op Reply)) (entry : Entry Op Reply) (after : List (Entry Op Reply))
       → IsSoFarAmongObjects object_in (layouts_of plan) before entry after
       → IsSoFarAmongObjects watched_object (kinds_of plan) before entry after
   so_far before entry after is = record {
@@ -44,7 +46,7 @@ module _ (plan : PlanSeen) where
     legal = is.legal;
   }
 
-  among : (before : List Entry) (entry : Entry) (after : List Entry)
+  among : (before : List (Entry Op Reply)) (entry : Entry Op Reply) (after : List (Entry Op Reply))
       → IsLegalAmongObjects object_in (layouts_of plan) before entry after
       → IsLegalAmongObjects watched_object (kinds_of plan) before entry after
   among before entry after is = record {
@@ -53,13 +55,13 @@ module _ (plan : PlanSeen) where
     legal = is.legal;
   }
 
-  pub legal : (history : List Entry) → IsLegalHistoryOf object_in (layouts_of plan) history → IsLegalHistory (kinds_of plan) history
+  pub legal : (history : List (Entry Op Reply)) → IsLegalHistoryOf object_in (layouts_of plan) history → IsLegalHistory (kinds_of plan) history
   legal history is = record {
     numbered = is.numbered;
     legal = λ before entry after parts. among before entry after (is.legal before entry after parts);
   }
 
-  pub each_so_far : (merged : List Entry)
+  pub each_so_far : (merged : List (Entry Op Reply))
       → AtEachPlace (λ before entry after. is_drawn entry.act entry.answer ≡ true
       → IsSoFarAmongObjects object_in (layouts_of plan) before entry after) merged
       → AtEachPlace (λ before entry after. is_drawn entry.act entry.answer ≡ true → IsSoFarAmongObjects watched_object (kinds_of plan) before entry after) merged
@@ -69,7 +71,7 @@ module _ (plan : PlanSeen) where
 abbrev pub LegalLaw : ℕ → Type 0
 LegalLaw procs =
     (proc_of : ℕ → ℕ) → ((caller : ℕ) → proc_of caller < procs)
-    → (declared : List SystemLayout) (s : Joined SystemLayout) (merged : List Entry)
+    → (declared : List SystemLayout) (s : Joined SystemLayout Op Reply) (merged : List (Entry Op Reply))
     → IsSound (any_with procs proc_of) declared s → IsMerged (lists_of s) merged → AreLegal (any_with procs proc_of) declared is_drawn merged
 
 homes : (procs : ℕ) (callers : List ℕ) → 0 < procs → EachPlace (λ c p. p < procs) callers → (c : ℕ) → slice_index_or callers c 0 < procs
@@ -85,8 +87,8 @@ all_placed system planned =
       turns_are = subst (λ (z : ℕ × List ℕ). gens.IsPlan z.0 z.1) (λ k. (sym planned.procs k, sym planned.callers k)) planned.sound.turns
 
 pub shown : (system : SystemSeen) → IsPlanned system → LegalLaw system.sys.procs
-    → (table : State (Slot SystemPart) (View SystemPart)) (rule : Rule (layouts_in system) system.sys.layouts table)
-    → (merged : List Entry) → IsMerged (lists_of rule.state) merged
+    → (table : State (Slot SystemPart Op Reply) (View SystemPart Op Reply)) (rule : Rule (layouts_in system) system.sys.layouts table)
+    → (merged : List (Entry Op Reply)) → IsMerged (lists_of rule.state) merged
     → AtEachPlace (λ before entry after. is_drawn entry.act entry.answer ≡ true → IsSoFarAmongObjects watched_object (kinds_of system.plan) before entry after) merged
 shown system planned law table rule merged is =
     each_so_far system.plan merged

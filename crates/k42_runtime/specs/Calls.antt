@@ -38,17 +38,17 @@ pub record IsAsked (plan : PlanSeen) (object : ℕ) (op : Op) : Type 0 where
   pub takes : IsTrue ((watched_object declaration.kind).takes op)
 
 -- it has drawn all the entries that a pass draws
-abbrev pub IsWorn : {P : Type 0} → PassView P → Type 0
+abbrev pub IsWorn : {P : Type 0} → PassView P Op Reply → Type 0
 IsWorn v = PASS_ENTRIES ≤ length v.taker.mine
 
 -- the caller has seen nothing that is later than this stamp
-abbrev pub SeesUpTo : {L : Type 0} → ℕ → ℕ → Joined L → Type 0
-SeesUpTo c stamp s = (entry : Entry) → HasSeen s c entry → entry.stamp ≤ stamp
+abbrev pub SeesUpTo : {L : Type 0} → ℕ → ℕ → Joined L Op Reply → Type 0
+SeesUpTo c stamp s = (entry : Entry Op Reply) → HasSeen s c entry → entry.stamp ≤ stamp
 
 -- The pass has one entry more, that of the call. It is later than the last that the pass had drawn, and so than all that
 -- it had seen: `nothing_seen_is_later_than_the_last_entry`.
-pub record HasCalled {P : Type 0} (object : ℕ) (op : Op) (reply : Reply) (old new : PassView P) : Type 0 where
-  pub entry : Entry
+pub record HasCalled {P : Type 0} (object : ℕ) (op : Op) (reply : Reply) (old new : PassView P Op Reply) : Type 0 where
+  pub entry : Entry Op Reply
   pub drawn : new.taker.mine ≡ old.taker.mine ++ entry ∷ []
   pub later : last_stamp old.taker.mine < entry.stamp
   pub clock : new.taker.clock ≡ entry.stamp
@@ -69,7 +69,7 @@ pub record HasCalled {P : Type 0} (object : ℕ) (op : Op) (reply : Reply) (old 
   pub keeps : KeepsElse old new
 
 -- It has drawn nothing, so that no part of an object has changed: these are what the entries make of them.
-pub record HasNotCalled {P : Type 0} (old new : PassView P) : Type 0 where
+pub record HasNotCalled {P : Type 0} (old new : PassView P Op Reply) : Type 0 where
   pub same : new.taker.mine ≡ old.taker.mine
   pub clock : new.taker.clock ≡ old.taker.clock
   pub keeps : KeepsElse old new
@@ -83,7 +83,7 @@ pub record WasBlocked (object : ℕ) (old new : List Taken) : Type 0 where
   pub met : Meets (step_at names.Knock (object_word object) found) old new
 
 -- it found a cell of the object with this caller
-pub record WasHeld {P : Type 0} (object holder : ℕ) (old new : PassView P) : Type 0 where
+pub record WasHeld {P : Type 0} (object holder : ℕ) (old new : PassView P Op Reply) : Type 0 where
   pub incarnation : ℕ
   pub place : ℕ
   pub there : place < PROCESSORS
@@ -91,7 +91,7 @@ pub record WasHeld {P : Type 0} (object holder : ℕ) (old new : PassView P) : T
   pub caller : holder < CALLERS
   pub met : Meets (step_at names.Lock (lock_word (cell_of object incarnation place)) (holder + 1)) old.log new.log
 
-abbrev pub HoldsUp : {P : Type 0} → CallCause → ℕ → PassView P → PassView P → Type 0
+abbrev pub HoldsUp : {P : Type 0} → CallCause → ℕ → PassView P Op Reply → PassView P Op Reply → Type 0
 HoldsUp causes.Blocked object old new = WasBlocked object old.log new.log
 HoldsUp (causes.Elsewhere word) object old new =
     EndsWith (step_at names.Install (local_word old.turn.proc object) word) old.log new.log

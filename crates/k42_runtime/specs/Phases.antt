@@ -1,6 +1,8 @@
 -- The phases of a swap, one after the other.
 use Rattle.std.specs.Prelude.{◌≡◌, ℕ, ◌+◌, ◌≤◌, ◌==◌, if◌then◌else◌, true, None, Result, Ok, Err}
 use Rattle.gen_core.specs.Events.{is_idle}
+use Rattle.k42_kinds.specs.declared.operation.Op.{Op}
+use Rattle.k42_kinds.specs.declared.operation.Reply.{Reply}
 use Rattle.k42_kinds.specs.declared.entry.To.{To}
 use Rattle.k42_kinds.specs.declared.entry.To.TheVariants as tos
 use Rattle.phase_core.specs.declared.caller.SwapAt.TheVariants.{Moved}
@@ -25,7 +27,7 @@ use Rattle.k42_runtime.specs.declared.swaps.Swapped.{Swapped}
 use Rattle.k42_runtime.specs.declared.swaps.Swapped.TheVariants as ends
 
 -- it has begun to move its object, in which nobody is any more, and has not handed the row on
-pub record IsMoving {P : Type 0} (object : ℕ) (v : PassView P) : Type 0 where
+pub record IsMoving {P : Type 0} (object : ℕ) (v : PassView P Op Reply) : Type 0 where
   pub inactive : v.turn.active ≡ None
   pub grace : is_idle v.turn.grace ≡ true
   pub swap : v.visitor.swap ≡ Moved object
@@ -62,7 +64,7 @@ last_step (Err reasons.Worn) = steps.Worn
 
 -- By steps that draw nothing the swap and its pass have become these, which are the same if it has not begun; one of a pass
 -- that is worn out has not.
-pub record HasGoneOn {P : Type 0} (s t : SwapSeen) (old new : PassSeen P) : Type 0 where
+pub record HasGoneOn {P : Type 0} (s t : SwapSeen) (old new : PassSeen P Op Reply) : Type 0 where
   pub object : t.object ≡ s.object
   pub to : t.to ≡ s.to
   pub seat : new.seat ≡ old.seat

@@ -31,20 +31,20 @@ use Rattle.k42_runtime.specs.declared.calls.CallTry.{CallTry}
 use Rattle.k42_runtime.specs.declared.calls.CallTry.TheVariants as tries
 
 -- the row that its call is inside
-abbrev pub object_inside : {P : Type 0} → PassView P → ℕ
+abbrev pub object_inside : {P : Type 0} → PassView P Op Reply → ℕ
 object_inside v = object_of v.visitor.place
 
-abbrev pub row_inside : {P : Type 0} → PassView P → ℕ
+abbrev pub row_inside : {P : Type 0} → PassView P Op Reply → ℕ
 row_inside v = row_of v.visitor.place
 
 -- it is inside a row of the object, whose layout it knows
-pub record IsServing {P : Type 0} (object : ℕ) (v : PassView P) : Type 0 where
+pub record IsServing {P : Type 0} (object : ℕ) (v : PassView P Op Reply) : Type 0 where
   pub served : is_served v.visitor.place ≡ true
   pub of : object_inside v ≡ object
   pub known : is_some v.layout ≡ true
 
 -- only where it is may be other
-pub record GoesBy {P : Type 0} (old new : PassView P) : Type 0 where
+pub record GoesBy {P : Type 0} (old new : PassView P Op Reply) : Type 0 where
   pub keeps : KeepsElse old new
   pub taker : new.taker ≡ old.taker
   pub notes : new.notes ≡ old.notes
@@ -56,7 +56,7 @@ pub record IsAskedOf (layouts : List SystemLayout) (object : ℕ) (op : Op) : Ty
   pub takes : IsTrue ((object_in declaration).takes op)
 
 -- it has the seat that it had, and keeps as before; for rows it has room as before, and, where it keeps none, for entries
-pub record IsSameSeat {P : Type 0} (old new : PassSeen P) : Type 0 where
+pub record IsSameSeat {P : Type 0} (old new : PassSeen P Op Reply) : Type 0 where
   pub table : new.table ≡ old.table
   pub seat : new.seat ≡ old.seat
   pub keep : new.keep ≡ old.keep
@@ -65,7 +65,7 @@ pub record IsSameSeat {P : Type 0} (old new : PassSeen P) : Type 0 where
   pub queue : new.queue ≡ old.queue
 
 -- the entry of a call, the next one of the pass
-pub record IsCallNext {P : Type 0} (op : Op) (reply : Reply) (v : PassView P) (entry : Entry) : Type 0 where
+pub record IsCallNext {P : Type 0} (op : Op) (reply : Reply) (v : PassView P Op Reply) (entry : Entry Op Reply) : Type 0 where
   pub later : last_stamp v.taker.mine < entry.stamp
   pub whole :
       entry
@@ -83,8 +83,8 @@ pub record IsCallNext {P : Type 0} (op : Op) (reply : Reply) (v : PassView P) (e
       }
 
 -- it has drawn the call, and holds these cells still
-pub record HasMade {P : Type 0} (cells : List ℕ) (op : Op) (reply : Reply) (old new : PassView P) : Type 0 where
-  pub entry : Entry
+pub record HasMade {P : Type 0} (cells : List ℕ) (op : Op) (reply : Reply) (old new : PassView P Op Reply) : Type 0 where
+  pub entry : Entry Op Reply
   pub next : IsCallNext op reply old entry
   pub knows :
       released cells new
@@ -102,30 +102,30 @@ step_with tries.Ended reply = steps.Ended reply
 step_with tries.Memory reply = steps.Memory
 step_with tries.Worn reply = steps.Worn
 
-abbrev pub Makes : {P : Type 0} → CallStep → List ℕ → Op → PassView P → PassView P → Type 0
+abbrev pub Makes : {P : Type 0} → CallStep → List ℕ → Op → PassView P Op Reply → PassView P Op Reply → Type 0
 Makes (steps.Ended reply) cells op old new = HasMade cells op reply old new
 Makes (steps.Again cause) cells op old new = ⊥
 Makes steps.Memory cells op old new = new ≡ old
 Makes steps.Worn cells op old new = ⊥
 
 -- it has drawn the call
-pub record HasDrawn {P : Type 0} (op : Op) (reply : Reply) (old new : PassView P) : Type 0 where
-  pub entry : Entry
+pub record HasDrawn {P : Type 0} (op : Op) (reply : Reply) (old new : PassView P Op Reply) : Type 0 where
+  pub entry : Entry Op Reply
   pub next : IsCallNext op reply old entry
   pub comes : ComesTo old (record old { taker = caller_drawn entry old.taker; found = None }) new
 
 -- how it has come out that sought its row: it is there, and nothing held it up, or it knows what did
-abbrev pub GoesIn : {P : Type 0} → Option CallCause → ℕ → PassView P → PassView P → Type 0
+abbrev pub GoesIn : {P : Type 0} → Option CallCause → ℕ → PassView P Op Reply → PassView P Op Reply → Type 0
 GoesIn None object old new = IsServing object new × Extends old.log new.log
 GoesIn (Some cause) object old new = (is_out new.visitor.place ≡ true) × HoldsUp cause object old new
 
 -- it is inside no call, and nothing held it up
-abbrev pub GoesOut : {P : Type 0} → PassView P → PassView P → Type 0
+abbrev pub GoesOut : {P : Type 0} → PassView P Op Reply → PassView P Op Reply → Type 0
 GoesOut old new = (is_out new.visitor.place ≡ true) × Extends old.log new.log
 
-module _ {S L P : Type 0} (F : Layouts S L P) (declared : List L) where
+module _ {S L P : Type 0} (F : Layouts S L P Op Reply) (declared : List L) where
   -- it is inside a row with this layout, of which the operation needs these cells
-  pub record IsCallAt (v : PassView P) (layout : L) (reach : Reach) (op : Op) : Type 0 where
+  pub record IsCallAt (v : PassView P Op Reply) (layout : L) (reach : Reach) (op : Op) : Type 0 where
     pub served : is_served v.visitor.place ≡ true
     pub few : object_inside v < 16
     pub declaration : L
@@ -140,7 +140,7 @@ module _ {S L P : Type 0} (F : Layouts S L P) (declared : List L) where
 
   -- it has taken them
   pub record HasCells
-      (v : PassView P) (layout : L) (reach : Reach) (op : Op) (contents : List (Content P))
+      (v : PassView P Op Reply) (layout : L) (reach : Reach) (op : Op) (contents : List (Content P Op Reply))
       : Type 0 where
     pub call : IsCallAt v layout reach op
     pub numbers : numbers_of contents ≡ cells_reached F.procs (object_inside v) (row_inside v) reach
@@ -150,7 +150,7 @@ module _ {S L P : Type 0} (F : Layouts S L P) (declared : List L) where
     pub back : v.out ≡ None
 
 -- how it has come out that was in its row, where it holds no cell again
-abbrev pub IsServedBy : {P : Type 0} → CallStep → Op → PassView P → PassView P → Type 0
+abbrev pub IsServedBy : {P : Type 0} → CallStep → Op → PassView P Op Reply → PassView P Op Reply → Type 0
 IsServedBy (steps.Ended reply) op old new = HasDrawn op reply old new
 IsServedBy (steps.Again (causes.CellHeld holder)) op old new =
     (new ≡ with_log new.log old) × WasHeld (object_inside old) holder old new
@@ -159,7 +159,7 @@ IsServedBy steps.Memory op old new = ComesTo old old new
 IsServedBy steps.Worn op old new = ⊥
 
 -- what it has drawn, or what has held it up
-abbrev pub TellsTry : {P : Type 0} → CallStep → ℕ → Op → PassView P → PassView P → Type 0
+abbrev pub TellsTry : {P : Type 0} → CallStep → ℕ → Op → PassView P Op Reply → PassView P Op Reply → Type 0
 TellsTry (steps.Ended reply) object op old new = HasCalled object op reply old new × Extends old.log new.log
 TellsTry (steps.Again cause) object op old new =
     (new.taker.mine ≡ old.taker.mine) × (new.taker.clock ≡ old.taker.clock) × HoldsUp cause object old new
@@ -168,7 +168,7 @@ TellsTry steps.Memory object op old new =
 TellsTry steps.Worn object op old new = ⊥
 
 -- how one try of a call has come out: the pass is inside no call, and holds what it held
-pub record HasTried {P : Type 0} (step : CallStep) (object : ℕ) (op : Op) (old new : PassView P) : Type 0 where
+pub record HasTried {P : Type 0} (step : CallStep) (object : ℕ) (op : Op) (old new : PassView P Op Reply) : Type 0 where
   pub out : is_out new.visitor.place ≡ true
   pub keeps : KeepsElse old new
   pub held : new.taker.held ≡ old.taker.held

@@ -2,6 +2,8 @@
 -- holds one up.
 use Rattle.std.specs.Prelude.{◌≡◌, ◌≢◌, ◌⊎◌, ◌↔◌, ℕ, ◌+◌, ◌-◌, ◌<◌, ◌≤◌, Bool, true, false, ⊤, List, [], ◌∷◌, ◌++◌, length, Option, Some, None, Result, Err, IfOk}
 use Rattle.gen_core.specs.Events as graces
+use Rattle.k42_kinds.specs.declared.operation.Op.{Op}
+use Rattle.k42_kinds.specs.declared.operation.Reply.{Reply}
 use Rattle.k42_kinds.specs.declared.entry.Act.{Act}
 use Rattle.k42_kinds.specs.declared.entry.Act.TheVariants as acts
 use Rattle.k42_kinds.specs.declared.entry.To.{To}
@@ -48,52 +50,52 @@ pub record SwapSeen : Type 0 where
   pub holder : Option ℕ
 
 -- the answer in the entry
-abbrev pub answer_told : Swapped → Answer
+abbrev pub answer_told : Swapped → Answer Reply
 answer_told (ends.Done number) = answers.Swapped number
 answer_told (ends.Busy number) = answers.Busy number
 answer_told ends.Spent = answers.Spent
 answer_told ends.Gone = answers.Gone
 
 -- a swap of one of so many objects is under way, and the pass has room for its entry and its row
-pub record IsUnderWay (objects object : ℕ) {P : Type 0} (pass : PassSeen P) : Type 0 where
+pub record IsUnderWay (objects object : ℕ) {P : Type 0} (pass : PassSeen P Op Reply) : Type 0 where
   pub there : object < objects
   pub entry : HasRoom pass
   pub row : 0 < pass.row_room
   pub few : length pass.view.taker.mine < PASS_ENTRIES
 
 -- a pass that may begin a swap
-pub record MayStart (objects object : ℕ) {P : Type 0} (pass : PassSeen P) : Type 0 where
+pub record MayStart (objects object : ℕ) {P : Type 0} (pass : PassSeen P Op Reply) : Type 0 where
   pub rests : IsAtRest pass.view
   pub there : object < objects
 
 -- it has drawn all the entries that a pass draws, or has begun all its graces
-abbrev pub IsWornOut : {P : Type 0} → PassView P → Type 0
+abbrev pub IsWornOut : {P : Type 0} → PassView P Op Reply → Type 0
 IsWornOut v = IsWorn v ⊎ (PASS_GRACES ≤ v.graces)
 
 -- the swap waits for a grace, which has not begun or has the role
-abbrev pub IsWaiting : {P : Type 0} → ℕ → Option ℕ → PassView P → Type 0
+abbrev pub IsWaiting : {P : Type 0} → ℕ → Option ℕ → PassView P Op Reply → Type 0
 IsWaiting object None v = (v.visitor.swap ≡ Interposed object) × MayStep None v
 IsWaiting object (Some holder) v =
     (v.visitor.swap ≡ Draining object) × (v.turn.active ≡ None) × MayStep (Some holder) v
 
 -- its Begin found the object free, alive and with an incarnation left
-abbrev pub HasFoundFree : {P : Type 0} → PassView P → Type 0
+abbrev pub HasFoundFree : {P : Type 0} → PassView P Op Reply → Type 0
 HasFoundFree v = begun_in (word_begun v.last) ≡ begins.Begun
 
 -- it has blocked its object, and waits for those who are counted
-pub record IsShut {P : Type 0} (object : ℕ) (v : PassView P) : Type 0 where
+pub record IsShut {P : Type 0} (object : ℕ) (v : PassView P Op Reply) : Type 0 where
   pub inactive : v.turn.active ≡ None
   pub grace : graces.is_idle v.turn.grace ≡ true
   pub swap : v.visitor.swap ≡ Blocking object
 
 -- it found its object over, and has not told so yet
-pub record IsToMark {P : Type 0} (object : ℕ) (act : Act) (v : PassView P) : Type 0 where
+pub record IsToMark {P : Type 0} (object : ℕ) (act : Act Op) (v : PassView P Op Reply) : Type 0 where
   pub rests : IsAtRest v
   pub begun : object_begun v.last ≡ object
   pub may : MayMark act v
 
 -- The pass is as the last step of the swap left it.
-abbrev pub IsAtStage : {P : Type 0} → Stage → ℕ → SwapSeen → PassSeen P → Type 0
+abbrev pub IsAtStage : {P : Type 0} → Stage → ℕ → SwapSeen → PassSeen P Op Reply → Type 0
 IsAtStage stages.New objects swap pass = (swap.holder ≡ None) × MayStart objects swap.object pass
 IsAtStage stages.Waiting objects swap pass =
     IsUnderWay objects swap.object pass × HasFoundFree pass.view × IsWaiting swap.object swap.holder pass.view
@@ -147,7 +149,7 @@ IsStepBy word steps.Memory = ⊤
 IsStepBy word steps.Worn = ⊤
 
 -- it is the same caller, on its processor
-pub record IsSameCaller {P : Type 0} (old new : PassView P) : Type 0 where
+pub record IsSameCaller {P : Type 0} (old new : PassView P Op Reply) : Type 0 where
   pub number : new.number ≡ old.number
   pub proc : new.turn.proc ≡ old.turn.proc
 
@@ -163,41 +165,41 @@ cell_told object (ends.Busy number) word = 0
 cell_told object end word = cell_of object (incarnation_in word) 0
 
 -- The pass has one entry more, that of the swap.
-pub record HasSwapped {P : Type 0} (object : ℕ) (to : To) (end : Swapped) (old new : PassView P) : Type 0 where
+pub record HasSwapped {P : Type 0} (object : ℕ) (to : To) (end : Swapped) (old new : PassView P Op Reply) : Type 0 where
   pub begun : object_begun new.last ≡ object
-  pub entry : Entry
+  pub entry : Entry Op Reply
   pub next :
       IsNext old object (incarnation_told end (word_begun new.last)) (cell_told object end (word_begun new.last))
       (acts.Swap to) (answer_told end) entry
   pub drawn : new.taker.mine ≡ old.taker.mine ++ entry ∷ []
 
 -- nothing was begun: at most it has collected rows, and has handed rows over
-abbrev pub HasNotBegun : {P : Type 0} → PassView P → PassView P → Type 0
+abbrev pub HasNotBegun : {P : Type 0} → PassView P Op Reply → PassView P Op Reply → Type 0
 HasNotBegun old new = new ≡ record old { rows = new.rows; granted = new.granted }
 
 -- What held a swap up: what the last step found that the pass has taken since.
 
 -- so many callers that the mediator of its object counts
-pub record IsInFlight {P : Type 0} (count : ℕ) (old new : PassView P) : Type 0 where
+pub record IsInFlight {P : Type 0} (count : ℕ) (old new : PassView P Op Reply) : Type 0 where
   pub found : ℕ
   pub moved : EndsWith (step_at names.Move (object_word (object_swapped new)) found) old.log new.log
   pub count_is : count ≡ count_in found
   pub some : 0 < count
 
 -- the first cell of the row that is over, with another caller
-pub record IsCellHeld {P : Type 0} (holder : ℕ) (old new : PassView P) : Type 0 where
+pub record IsCellHeld {P : Type 0} (holder : ℕ) (old new : PassView P Op Reply) : Type 0 where
   pub over : is_over_in (word_begun new.last) ≡ true
   pub locked : EndsWith (step_at names.Lock (lock_word (cell_marked new)) (holder + 1)) old.log new.log
   pub another : holder ≢ new.number
   pub caller : holder < CALLERS
 
 -- the role, with another caller
-pub record IsRoleElsewhere {P : Type 0} (holder : ℕ) (old new : PassView P) : Type 0 where
+pub record IsRoleElsewhere {P : Type 0} (holder : ℕ) (old new : PassView P Op Reply) : Type 0 where
   pub tried : EndsWith (step_at names.TakeRole role_word (holder + 1)) old.log new.log
   pub another : holder ≢ new.number
   pub caller : holder < CALLERS
 
-abbrev pub IsHeldUpBy : {P : Type 0} → Cause → PassView P → PassView P → Type 0
+abbrev pub IsHeldUpBy : {P : Type 0} → Cause → PassView P Op Reply → PassView P Op Reply → Type 0
 IsHeldUpBy (causes.Left proc left) old new = IsLeft proc left old new
 IsHeldUpBy (causes.RoleHeld holder) old new = IsRoleElsewhere holder old new
 IsHeldUpBy (causes.InFlight count) old new = IsInFlight count old new
@@ -205,10 +207,10 @@ IsHeldUpBy (causes.CellHeld holder) old new = IsCellHeld holder old new
 
 -- A swap that had begun was given up, which its entry tells. The last of its steps has ended it, and has left the object as
 -- it was when the swap began.
-pub record HasAbandoned {P : Type 0} (object : ℕ) (to : To) (old new : PassView P) : Type 0 where
+pub record HasAbandoned {P : Type 0} (object : ℕ) (to : To) (old new : PassView P Op Reply) : Type 0 where
   pub begun : object_begun new.last ≡ object
   pub free : HasFoundFree new
-  pub entry : Entry
+  pub entry : Entry Op Reply
   pub next :
       IsNext old object (incarnation_in (word_begun new.last)) 0 (acts.Swap to)
       (answers.Abandoned (incarnation_in (word_begun new.last) + 1)) entry
@@ -220,12 +222,12 @@ pub record HasAbandoned {P : Type 0} (object : ℕ) (to : To) (old new : PassVie
   pub restored : IsRestored (word_begun new.last) (clears (Opened object) found)
 
 -- A step that finds no memory is the first, and has done nothing, or it gives the swap up.
-abbrev pub StepsWithoutMemory : {P : Type 0} → Stage → ℕ → To → PassView P → PassView P → Type 0
+abbrev pub StepsWithoutMemory : {P : Type 0} → Stage → ℕ → To → PassView P Op Reply → PassView P Op Reply → Type 0
 StepsWithoutMemory stage object to old new =
     ((stage ≡ stages.New) × (new ≡ old)) ⊎ HasAbandoned object to old new
 
 -- and so ends a swap that was waited for
-abbrev pub EndsWithoutMemory : {P : Type 0} → ℕ → To → PassView P → PassView P → Type 0
+abbrev pub EndsWithoutMemory : {P : Type 0} → ℕ → To → PassView P Op Reply → PassView P Op Reply → Type 0
 EndsWithoutMemory object to old new = HasNotBegun old new ⊎ HasAbandoned object to old new
 
 -- what a step of a swap brings, by its answer

@@ -4,7 +4,9 @@ use Rattle.gen_core.specs.Events as graces
 use Rattle.k42_kinds.specs.declared.states.AnyState.{AnyState}
 use Rattle.k42_kinds.specs.OneThread.{OneThread}
 use Rattle.k42_kinds.specs.Rows.{Ways}
-use Rattle.k42_kinds.specs.Watched.{watched_object}
+use Rattle.k42_kinds.specs.Watched.{seen_asking, watched_object}
+use Rattle.k42_kinds.specs.declared.operation.Op.{Op}
+use Rattle.k42_kinds.specs.declared.operation.Reply.{Reply}
 use Rattle.k42_kinds.specs.declared.entry.Act.{Act}
 use Rattle.k42_kinds.specs.declared.watch.WatchState.{WatchState}
 use Rattle.k42_places.specs.Places.{EachPlace}
@@ -38,17 +40,17 @@ SystemPart = WatchPart AnyPart
 
 -- a pass of such a system
 abbrev pub SystemPass : Type 0
-SystemPass = PassSeen SystemPart
+SystemPass = PassSeen SystemPart Op Reply
 
 -- what such a layout is: whose watched object it keeps, under which tag, how, and what is asked for by a swap to it
-abbrev pub object_in : SystemLayout → OneThread SystemState
+abbrev pub object_in : SystemLayout → OneThread SystemState Op Reply
 object_in layout = watched_object layout.inner.kind
 
 abbrev pub tag_in : SystemLayout → ℕ
 tag_in layout = layout.inner.tag
 
-abbrev pub ways_in : SystemLayout → Ways SystemState SystemPart
-ways_in layout = watched_ways layout.inner.tag (ways_of layout.inner.kind layout.inner.tag)
+abbrev pub ways_in : SystemLayout → Ways SystemState SystemPart Op Reply
+ways_in layout = watched_ways seen_asking layout.inner.tag (ways_of layout.inner.kind layout.inner.tag)
 
 abbrev pub whole_in : SystemLayout → ℕ → List SystemPart → Type 0
 whole_in layout procs = IsWatchedRow layout.inner.tag (whole_of layout.inner.kind layout.inner.tag procs)
@@ -59,7 +61,7 @@ serves_in layout = ServesWatched layout.inner.tag (serves_of layout.inner.kind l
 abbrev pub admitted_in : SystemLayout → SystemState → SystemState
 admitted_in layout = admitted_watched layout.inner.tag layout.layer (admitted_of layout.inner.tag)
 
-abbrev pub act_in : SystemLayout → Act
+abbrev pub act_in : SystemLayout → Act Op
 act_in layout = watched_act layout.inner.tag layout.layer (act_of layout.inner.tag)
 
 -- the layouts in which the objects of a plan start, with no layer
@@ -83,13 +85,13 @@ pub record IsPlanned (system : SystemSeen) : Type 0 where
   pub keep : system.sys.keep ≡ system.plan.keep
 
 -- the layouts of all kinds, on so many processors and for callers there
-abbrev pub any_with : ℕ → (ℕ → ℕ) → Layouts SystemState SystemLayout SystemPart
+abbrev pub any_with : ℕ → (ℕ → ℕ) → Layouts SystemState SystemLayout SystemPart Op Reply
 any_with = layouts_with object_in tag_in ways_in whole_in serves_in admitted_in act_in
 
-abbrev pub any_layouts : ℕ → List ℕ → Layouts SystemState SystemLayout SystemPart
+abbrev pub any_layouts : ℕ → List ℕ → Layouts SystemState SystemLayout SystemPart Op Reply
 any_layouts procs callers = any_with procs (λ c. slice_index_or callers c 0)
 
-abbrev pub layouts_in : SystemSeen → Layouts SystemState SystemLayout SystemPart
+abbrev pub layouts_in : SystemSeen → Layouts SystemState SystemLayout SystemPart Op Reply
 layouts_in system = any_layouts system.sys.procs system.sys.callers
 
 -- the pass is one of the system, is inside no call, and holds no cell
@@ -100,17 +102,17 @@ pub record IsPassHere (system : SystemSeen) (pass : SystemPass) : Type 0 where
   pub notes : pass.view.notes ≡ []
 
 -- it is in an activity, and no grace and no swap of it is under way
-pub record IsAtWork {P : Type 0} (v : PassView P) : Type 0 where
+pub record IsAtWork {P : Type 0} (v : PassView P Op Reply) : Type 0 where
   pub active : is_some v.turn.active ≡ true
   pub grace : graces.is_idle v.turn.grace ≡ true
   pub swap : swaps.is_idle v.visitor.swap ≡ true
 
 -- it has nothing under way
-abbrev pub IsAtRest : {P : Type 0} → PassView P → Type 0
+abbrev pub IsAtRest : {P : Type 0} → PassView P Op Reply → Type 0
 IsAtRest v = is_at_rest v ≡ true
 
 -- of what a pass keeps by itself, only its entries, its clock, its place and the layout that it last learned may be others
-abbrev pub KeepsElse : {P : Type 0} → PassView P → PassView P → Type 0
+abbrev pub KeepsElse : {P : Type 0} → PassView P Op Reply → PassView P Op Reply → Type 0
 KeepsElse old new =
     own_in new ≡ record (own_in old) {
       place = new.visitor.place;

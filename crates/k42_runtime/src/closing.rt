@@ -7,6 +7,7 @@ use crate::history::{History, Unclosed};
 use crate::system::{Pass, System, SystemLayout};
 use k42_joined::trace_at_rest_is_a_history;
 use k42_journal::Journal;
+use k42_kinds::{Op, Reply};
 use k42_rule::{give_logs, layouts_are_lawful};
 use k42_stamp::lists_have_a_merge;
 use std::alloc::Global;
@@ -19,7 +20,7 @@ impl System {
     {
         layouts_are_lawful(&self.sys);
         trace_at_rest_is_a_history::<SystemLayout>(self.sys.procs());
-        lists_have_a_merge();
+        lists_have_a_merge::<Op, Reply>();
         let System { sys, .. } = self;
         sys.finish(passes);
     }

@@ -4,7 +4,7 @@ ghost use Rattle.std.specs.Prelude.{◌≡◌, ◌==◌, length, IfOk};
 use crate::plan::Plan;
 use crate::system::{Pass, System};
 use k42_journal::{Journal, Reader};
-use k42_kinds::Entry;
+use k42_kinds::{Entry, Op, Reply};
 use k42_memory::Memory;
 use std::alloc::Global;
 use std::marker::Model;
@@ -12,7 +12,7 @@ use std::marker::Model;
 /// One legal history of all objects of a system. Only closing a system makes one.
 #[derive(Drop)]
 pub struct History {
-    pub(crate) journal: Journal,
+    pub(crate) journal: Journal<Op, Reply>,
     pub(crate) plan: Plan,
 }
 
@@ -48,14 +48,14 @@ impl History {
 
     /// Its entries, in order, with their places from 1 as stamps, to be read one after the other.
     /// The memory that it asks for goes by the number of passes.
-    pub fn read(&self, alloc: Global) -> Result<Reader<'_>, Memory>
+    pub fn read(&self, alloc: Global) -> Result<Reader<'_, Op, Reply>, Memory>
         ensures { IfOk result (λ reader. reader ≡ self.now.entries) }
     {
         self.journal.read(alloc)
     }
 
     /// All of them as a list. Want of memory leaves the history, which can be read again.
-    pub fn collect(&self, alloc: Global) -> Result<Vec<Entry>, Memory>
+    pub fn collect(&self, alloc: Global) -> Result<Vec<Entry<Op, Reply>>, Memory>
         ensures { IfOk result (λ list. list.items ≡ self.now.entries) }
     {
         self.journal.collect(alloc)

@@ -11,6 +11,8 @@ ghost use Rattle.k42_kinds.specs.Histories.{AtEachPlace};
 ghost use Rattle.k42_kinds.specs.Legal.{IsSoFarAmongObjects};
 ghost use Rattle.k42_kinds.specs.Watched.{watched_object};
 ghost use Rattle.k42_kinds.specs.declared.entry.Entry.{Entry};
+ghost use Rattle.k42_kinds.specs.declared.operation.Op.{Op};
+ghost use Rattle.k42_kinds.specs.declared.operation.Reply.{Reply};
 ghost use Rattle.k42_stamp.specs.Lists.{IsMerged, is_drawn};
 ghost use Rattle.k42_mediator.specs.Swaps.{LeavesOpen};
 ghost use Rattle.phase_core.specs.declared.caller.SwapAt.TheVariants.{Opened};
@@ -26,8 +28,8 @@ use k42_rule::layouts_are_lawful;
 /// At every moment between two steps, the entries of all passes, in order and numbered anew, are legal so far: each
 /// call, and each swap, destroy, watch or unwatch that was done, spent or gone.
 pub fn traces_are_legal(system: &System)
-    ensures { (table : State (Slot SystemPart) (View SystemPart)) (rule : Rule (layouts_in system.now) system.now.sys.layouts table)
-        (merged : List Entry) → IsMerged (lists_of rule.state) merged
+    ensures { (table : State (Slot SystemPart Op Reply) (View SystemPart Op Reply)) (rule : Rule (layouts_in system.now) system.now.sys.layouts table)
+        (merged : List (Entry Op Reply)) → IsMerged (lists_of rule.state) merged
         → AtEachPlace (λ before entry after. is_drawn entry.act entry.answer ≡ true
         → IsSoFarAmongObjects watched_object (kinds_of system.now.plan) before entry after) merged }
 {
@@ -38,7 +40,7 @@ pub fn traces_are_legal(system: &System)
 /// In whatever state the table shows, what a pass has seen is not later than its last entry: its own entries, what
 /// stood before them in the histories of their cells, and what stood in the rows that its swaps handed on.
 pub fn nothing_seen_is_later_than_the_last_entry(system: &System)
-    ensures { (id : ℕ) (v : PassView SystemPart) → Always (layouts_in system.now) system.now.sys.layouts id v (SeesUpTo v.number (last_stamp v.taker.mine)) }
+    ensures { (id : ℕ) (v : PassView SystemPart Op Reply) → Always (layouts_in system.now) system.now.sys.layouts id v (SeesUpTo v.number (last_stamp v.taker.mine)) }
 {
     layouts_are_lawful(&system.sys);
 }
@@ -47,7 +49,7 @@ pub fn nothing_seen_is_later_than_the_last_entry(system: &System)
 /// table shows, the step by which it ends the swap leaves the object as it was when that began, and all its entries lead
 /// there.
 pub fn the_end_of_a_swap_given_up_leaves_its_object_open(system: &System)
-    ensures { (id object : ℕ) (v : PassView SystemPart) → v.visitor.swap ≡ Opened object → v.turned ≡ false
+    ensures { (id object : ℕ) (v : PassView SystemPart Op Reply) → v.visitor.swap ≡ Opened object → v.turned ≡ false
         → LeavesOpen (layouts_in system.now) system.now.sys.layouts id v }
 {
     layouts_are_lawful(&system.sys);

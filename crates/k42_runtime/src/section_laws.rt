@@ -6,6 +6,8 @@ ghost use Rattle.k42_board.specs.Rule.{Ruled};
 ghost use Rattle.k42_board.specs.declared.view.View.{View};
 ghost use Rattle.k42_kinds.specs.Legal.{IsLegalHistory};
 ghost use Rattle.k42_kinds.specs.declared.entry.Entry.{Entry};
+ghost use Rattle.k42_kinds.specs.declared.operation.Op.{Op};
+ghost use Rattle.k42_kinds.specs.declared.operation.Reply.{Reply};
 ghost use Rattle.k42_rule.specs.Finishing.{lists_in};
 ghost use Rattle.k42_rule.specs.Sections.{fronts_in};
 ghost use Rattle.k42_stamp.specs.Lists.{IsMerged};
@@ -16,14 +18,15 @@ ghost use Rattle.k42_runtime.specs.Systems.{SystemPart, SystemPass, layouts_in};
 
 use crate::system::{System, SystemLayout};
 use k42_joined::trace_at_rest_is_a_history;
+use k42_kinds::{Op, Reply};
 use k42_rule::layouts_are_lawful;
 use k42_stamp::a_merge_is_one;
 
 /// In whatever state the table shows once a section was given, it makes one legal history of the plan's objects with what
 /// was given before it.
 pub fn sections_are_legal(system: &System)
-    ensures { (old passes : List SystemPass) (section : List Entry) (is : IsSection old passes section) → MayEnd system.now passes
-        → (table : State (Slot SystemPart) (View SystemPart))
+    ensures { (old passes : List SystemPass) (section : List (Entry Op Reply)) (is : IsSection old passes section) → MayEnd system.now passes
+        → (table : State (Slot SystemPart Op Reply) (View SystemPart Op Reply))
         → Ruled (layouts_in system.now) system.now.sys.layouts (length system.now.sys.callers) table → AreShown table passes
         → IsLegalHistory (kinds_of system.now.plan) (is.before ++ section) }
 {
@@ -33,19 +36,19 @@ pub fn sections_are_legal(system: &System)
 
 /// All sections, one behind the other, are the one list in order of what the passes have given.
 pub fn sections_lie_end_to_end()
-    ensures { (sections : List (List Entry)) (passes : List SystemPass) → HaveGiven sections passes
+    ensures { (sections : List (List (Entry Op Reply))) (passes : List SystemPass) → HaveGiven sections passes
         → IsMerged (fronts_in passes) (end_to_end sections) }
 {
-    a_merge_is_one();
+    a_merge_is_one::<Op, Reply>();
 }
 
 /// A section leaves nothing that was not given. So where a system has ended after its last section, the sections are its
 /// whole history.
 pub fn the_last_section_ends_the_history()
-    ensures all { (old new : List SystemPass) (section : List Entry) → IsSection old new section → fronts_in new ≡ lists_in new }
-    ensures ends { (plan : PlanSeen) (sections : List (List Entry)) (old new : List SystemPass) (section : List Entry)
+    ensures all { (old new : List SystemPass) (section : List (Entry Op Reply)) → IsSection old new section → fronts_in new ≡ lists_in new }
+    ensures ends { (plan : PlanSeen) (sections : List (List (Entry Op Reply))) (old new : List SystemPass) (section : List (Entry Op Reply))
         → HaveGiven sections old → IsSection old new section → HasHistory plan (lists_in new)
         → IsClosed plan (lists_in new) (record { entries = end_to_end sections ++ section; plan = plan }) }
 {
-    a_merge_is_one();
+    a_merge_is_one::<Op, Reply>();
 }

@@ -7,6 +7,7 @@ ghost use Rattle.k42_runtime.specs.Sections.{IsSection, MaySection};
 
 use crate::system::{Pass, System};
 use k42_journal::Journal;
+use k42_kinds::{Op, Reply};
 use k42_memory::Memory;
 use k42_rule::give_section;
 use k42_stamp::{lists_have_a_merge, sections_merge_to_the_whole};
@@ -27,15 +28,15 @@ fn given_of(passes: &[Pass]) -> u64
 impl System {
     /// What its passes have drawn since the last section, as one list in order, which goes on where that ended; and the
     /// system goes on. Whatever they draw from now on is later. Out of memory nothing is done.
-    pub fn section(&self, alloc: Global, passes: &mut [Pass]) -> Result<Journal, Memory>
+    pub fn section(&self, alloc: Global, passes: &mut [Pass]) -> Result<Journal<Op, Reply>, Memory>
         requires { MaySection self.now passes.old }
         ensures ok { IfOk result (IsSection passes.old passes.new) }
         ensures memory { OnErr result (passes.new ≡ passes.old) }
         ensures again { MaySection self.now passes.new }
     {
         let sys = &self.sys;
-        lists_have_a_merge();
-        sections_merge_to_the_whole();
+        lists_have_a_merge::<Op, Reply>();
+        sections_merge_to_the_whole::<Op, Reply>();
         let mut logs = Vec::with_capacity(alloc, passes.len())?;
         let first = given_of(passes) + 1;
         give_section(sys, alloc, passes, &mut logs);

@@ -21,7 +21,7 @@ use Rattle.k42_stamp.proofs.PartSteps.{AreDisjoint, parts_apart}
 use Rattle.k42_stamp.proofs.Needed.{disjoint_or, disjoint_misses, needed, entry_within, all_within, entries_told, first_above, past_left-same}
 
 -- what is left at a cell after the draw
-left_drawn : {S L P : Type 0} (F : Layouts S L P) (layout : L) (c : ℕ) (e : Entry) (first history front back : List Entry) (b : Bool) → touches (reach_of F layout e) c ≡ b → history ≡ first ++ those_at F layout c (front ++ back)
+left_drawn : {S L P O R : Type 0} (F : Layouts S L P O R) (layout : L) (c : ℕ) (e : Entry O R) (first history front back : List (Entry O R)) (b : Bool) → touches (reach_of F layout e) c ≡ b → history ≡ first ++ those_at F layout c (front ++ back)
     → AllByRecursion (λ f. AreDisjoint (reach_of F layout e) (reach_of F layout f)) back → cond b (history ++ e ∷ []) history ≡ first ++ those_at F layout c (front ++ e ∷ back)
 left_drawn F layout c e first history front back true t left apart =
     let none : those_at F layout c back ≡ [] = filter-none (λ f. touches (reach_of F layout f) c) back
@@ -31,7 +31,7 @@ left_drawn F layout c e first history front back true t left apart =
 left_drawn F layout c e first history front back false t left apart =
     rw (left, filter-append (λ f. touches (reach_of F layout f) c) front back, filter-append (λ f. touches (reach_of F layout f) c) front (e ∷ back), t) refl
 
-module _ {S L P : Type 0} (F : Layouts S L P) (declared : L) (o : ℕ) (histories : ℕ → ℕ → List Entry) (chain : Chain L P) (e : Entry) where
+module _ {S L P O R : Type 0} (F : Layouts S L P O R) (declared : L) (o : ℕ) (histories : ℕ → ℕ → List (Entry O R)) (chain : Chain L P O R) (e : Entry O R) where
   drawn_here : (cell : ℕ) → drawn_at F chain.row.layout e (length chain.past) histories (length chain.past) cell ≡ cond (touches (reach_of F chain.row.layout e) cell) (histories (length chain.past) cell ++ e ∷ []) (histories (length chain.past) cell)
   drawn_here cell = rw (eq-eqb (length chain.past) (length chain.past) refl) refl
 
@@ -47,7 +47,7 @@ module _ {S L P : Type 0} (F : Layouts S L P) (declared : L) (o : ℕ) (historie
     apart_after =
         let layout = chain.row.layout in
         let shared = entries_told F laws layout fits.row.known (IsLater e) (λ c. touches (reach_of F layout e) c ≡ true) (histories (length chain.past)) (first_of chain.past) chain.row.entries fits.left next.later in
-        let Told : Entry → Type 0 = λ f. (t : (c : ℕ) × (c < F.procs) × (touches (reach_of F layout e) c ≡ true)) → touches (reach_of F layout f) t.0 ≡ true → IsLater e f in
+        let Told : Entry O R → Type 0 = λ f. (t : (c : ℕ) × (c < F.procs) × (touches (reach_of F layout e) c ≡ true)) → touches (reach_of F layout f) t.0 ≡ true → IsLater e f in
         all_weaker (λ f. IsWithin F.procs (reach_of F layout f) × Told f) (λ f. IsBefore e f → AreDisjoint (reach_of F layout e) (reach_of F layout f))
         (λ f h b. ⊎_elim {C = AreDisjoint (reach_of F layout e) (reach_of F layout f)} (λ d. d)
         (λ (t : (c : ℕ) × (c < F.procs) × (touches (reach_of F layout e) c ≡ true) × (touches (reach_of F layout f) c ≡ true)).
@@ -62,7 +62,7 @@ module _ {S L P : Type 0} (F : Layouts S L P) (declared : L) (o : ℕ) (historie
 
     free : AllByRecursion (λ f. AreDisjoint (reach_of F chain.row.layout e) (reach_of F chain.row.layout f)) place.back
     free =
-        let Apart : Entry → Type 0 = λ f. AreDisjoint (reach_of F chain.row.layout e) (reach_of F chain.row.layout f) in
+        let Apart : Entry O R → Type 0 = λ f. AreDisjoint (reach_of F chain.row.layout e) (reach_of F chain.row.layout f) in
         let apart = all_back (λ f. IsBefore e f → Apart f) place.front place.back (rw place.cut at apart_after) in
         all_weaker (λ f. IsBefore e f × (IsBefore e f → Apart f)) Apart (λ f h. h.1 h.0) place.back (all_both (IsBefore e) (λ f. IsBefore e f → Apart f) place.back place.higher apart)
 
@@ -76,7 +76,7 @@ module _ {S L P : Type 0} (F : Layouts S L P) (declared : L) (o : ℕ) (historie
     draw_keeps =
         let layout = chain.row.layout in
         let steps = part_steps F layout in
-        let Apart : Entry → Entry → Type 0 = λ a b. AreDisjoint (reach_of F layout a) (reach_of F layout b) in
+        let Apart : Entry O R → Entry O R → Type 0 = λ a b. AreDisjoint (reach_of F layout a) (reach_of F layout b) in
         record {
           front = place.front;
           back = place.back;
@@ -97,5 +97,5 @@ module _ {S L P : Type 0} (F : Layouts S L P) (declared : L) (o : ℕ) (historie
             past_left = past_left-same F chain.past histories (drawn_at F layout e (length chain.past) histories) (λ row cell lt. drawn_else row cell (λ same. absurd (omega arith))) fits.past_left;
             left = λ cell lt. drawn_here cell ∙ left_drawn F layout cell e (first_of chain.past) (histories (length chain.past) cell) place.front place.back (touches (reach_of F layout e) cell) refl (rw (← place.cut) (fits.left cell lt)) free;
           };
-          moved = inserted_replayed steps Apart (parts_apart F layout) chain.row.start e place.front place.back free ∙ ap (λ (l : List Entry). steps.moves (replayed steps chain.row.start l) e) (sym place.cut);
+          moved = inserted_replayed steps Apart (parts_apart F layout) chain.row.start e place.front place.back free ∙ ap (λ (l : List (Entry O R)). steps.moves (replayed steps chain.row.start l) e) (sym place.cut);
         }

@@ -29,7 +29,7 @@ parts_after parts Drain = replicate (length parts) 0
 parts_after parts _ = parts
 
 -- callers 0 and 2 are on the first processor, caller 1 is on the second
-abbrev two : Layouts ℕ (Unit {0}) ℕ
+abbrev two : Layouts ℕ (Unit {0}) ℕ Op Reply
 two = record {
   object_of = λ _. counter_object;
   tag_of = λ _. 1;
@@ -51,23 +51,23 @@ two = record {
   proc_of = λ caller. caller % 2;
 }
 
-abbrev call : ℕ → ℕ → ℕ → Op → Reply → Entry
+abbrev call : ℕ → ℕ → ℕ → Op → Reply → Entry Op Reply
 call stamp caller cell op reply = record { stamp = stamp; caller = caller; index = 0; object = 0; incarnation = 0; cell = cell; act = Call op; answer = Replied reply; proc = caller % 2; generation = Some 0 }
 
-abbrev five : Entry
+abbrev five : Entry Op Reply
 five = call 1 0 0 (Add 5) Done
 
-abbrev seven : Entry
+abbrev seven : Entry Op Reply
 seven = call 2 0 0 (Add 7) Done
 
 -- drawn after these two, and between them in the order
-abbrev three : Entry
+abbrev three : Entry Op Reply
 three = call 1 1 1 (Add 3) Done
 
-abbrev chain : Chain (Unit {0}) ℕ
+abbrev chain : Chain (Unit {0}) ℕ Op Reply
 chain = record { past = []; row = record { layout = tt; start = 0 ∷ 0 ∷ []; entries = five ∷ seven ∷ [] } }
 
-abbrev histories : ℕ → ℕ → List Entry
+abbrev histories : ℕ → ℕ → List (Entry Op Reply)
 histories row zero = five ∷ seven ∷ []
 histories row (suc cell) = []
 
@@ -139,10 +139,10 @@ same_stamp : IsNext two 0 histories chain (call 2 2 0 (Add 1) Done) → ⊥
 same_stamp next = let above : 2 < 2 = (next.later 0 (omega arith) refl).1.0 in omega arith
 
 -- a row that was read, of which only the first cell tells so
-abbrev read : Entry
+abbrev read : Entry Op Reply
 read = call 3 0 0 Get (Number 12)
 
-abbrev told_once : ℕ → ℕ → List Entry
+abbrev told_once : ℕ → ℕ → List (Entry Op Reply)
 told_once row zero = five ∷ seven ∷ read ∷ []
 told_once row (suc cell) = []
 
@@ -150,7 +150,7 @@ read_once : Fits two tt 0 told_once (chain_with chain (five ∷ seven ∷ read �
 read_once fits = cc (fits.left 1 (omega arith))
 
 -- the row is handed on with what it holds
-abbrev swap : Entry
+abbrev swap : Entry Op Reply
 swap = record { stamp = 3; caller = 1; index = 0; object = 0; incarnation = 0; cell = 8; act = Swap (Layout Spread); answer = Swapped 1; proc = 1; generation = None }
 
 after_all : (cell : ℕ) → cell < 2 → AllByRecursion (IsLater swap) (histories 0 cell)

@@ -11,13 +11,13 @@ use Rattle.k42_stamp.specs.Hands.{IsHand, handed, begun_at}
 use Rattle.k42_stamp.specs.Laws.{AreLaws}
 use Rattle.k42_stamp.proofs.Needed.{entries_all, first_above, past_left-same}
 
-pub begun_here : (e : Entry) (number : ℕ) (histories : ℕ → ℕ → List Entry) (cell : ℕ) → begun_at e number histories number cell ≡ e ∷ []
+pub begun_here : {O R : Type 0} (e : Entry O R) (number : ℕ) (histories : ℕ → ℕ → List (Entry O R)) (cell : ℕ) → begun_at e number histories number cell ≡ e ∷ []
 begun_here e number histories cell = rw (eq-eqb number number refl) refl
 
-pub begun_else : (e : Entry) (number : ℕ) (histories : ℕ → ℕ → List Entry) (row cell : ℕ) → row ≢ number → begun_at e number histories row cell ≡ histories row cell
+pub begun_else : {O R : Type 0} (e : Entry O R) (number : ℕ) (histories : ℕ → ℕ → List (Entry O R)) (row cell : ℕ) → row ≢ number → begun_at e number histories row cell ≡ histories row cell
 begun_else e number histories row cell other = rw (ne_eqb row number other) refl
 
-pub hand_begins : {S L P : Type 0} (F : Layouts S L P) (declared : L) (o : ℕ) (histories : ℕ → ℕ → List Entry) (chain : Chain L P) (layout : L) (e : Entry)
+pub hand_begins : {S L P O R : Type 0} (F : Layouts S L P O R) (declared : L) (o : ℕ) (histories : ℕ → ℕ → List (Entry O R)) (chain : Chain L P O R) (layout : L) (e : Entry O R)
     → AreLaws F → Fits F declared o histories chain → IsHand F declared o histories chain layout e
     → Fits F declared o (begun_at e (suc (length chain.past)) histories) (handed F chain layout e)
 hand_begins F declared o histories chain layout e laws fits hand =

@@ -23,35 +23,35 @@ behind-append P any front [] ys h g = rw append-nil at g
 behind-append P any front (x ∷ xs) ys h g = (any front x xs (xs ++ ys) h.0, behind-append P any (front ++ x ∷ []) xs ys h.1 (rw (← append_assoc front (x ∷ []) xs) at g))
 
 -- what is no call is legal by its answer
-by_answer : {S : Type 0} (object : OneThread S) (before : List Entry) (e : Entry) (act : Act) → is_call act ≡ false → IsAnswerSoFar object before e e.answer → IsActSoFar object before e act
+by_answer : {S O R : Type 0} (object : OneThread S O R) (before : List (Entry O R)) (e : Entry O R) (act : Act O) → is_call act ≡ false → IsAnswerSoFar object before e e.answer → IsActSoFar object before e act
 by_answer object before e (Call op) other legal = cc other
 by_answer object before e (Swap to) other legal = legal
 
-module _ {S L P : Type 0} (F : Layouts S L P) (laws : AreLaws F) (declared : L) (o : ℕ) where
-  abbrev thread : OneThread S
+module _ {S L P O R : Type 0} (F : Layouts S L P O R) (laws : AreLaws F) (declared : L) (o : ℕ) where
+  abbrev thread : OneThread S O R
   thread = F.object_of declared
 
-  abbrev Stands : (past : List (Turn L P)) (row : Row L P) → IsRow F declared o past row → List Entry → List P → Type 0
+  abbrev Stands : (past : List (Turn L P O R)) (row : Row L P O R) → IsRow F declared o past row → List (Entry O R) → List P → Type 0
   Stands past row is front parts = StandsBehind F laws row.layout is.known o (length past) thread front parts
 
   -- the entries of a row, behind those of the rows before
-  pub row_runs : (past : List (Turn L P)) (row : Row L P) (is : IsRow F declared o past row) (front : List Entry) → Stands past row is front row.start → RunsOn F laws row.layout is.known o (length past) thread front row.entries row.start
+  pub row_runs : (past : List (Turn L P O R)) (row : Row L P O R) (is : IsRow F declared o past row) (front : List (Entry O R)) → Stands past row is front row.start → RunsOn F laws row.layout is.known o (length past) thread front row.entries row.start
   row_runs past row is front s =
-      subst (λ (object : OneThread S). RunsOn F laws row.layout is.known o (length past) object front row.entries row.start) is.kind
+      subst (λ (object : OneThread S O R). RunsOn F laws row.layout is.known o (length past) object front row.entries row.start) is.kind
       (entries_run F laws row.layout is.known o (length past) front row.entries row.start
-      (subst (λ (object : OneThread S). StandsBehind F laws row.layout is.known o (length past) object front row.start) (sym is.kind) s) is.own is.replied)
+      (subst (λ (object : OneThread S O R). StandsBehind F laws row.layout is.known o (length past) object front row.start) (sym is.kind) s) is.own is.replied)
 
-  alive_there : (past : List (Turn L P)) (row : Row L P) (is : IsRow F declared o past row) (front : List Entry) (parts : List P) → Stands past row is front parts → F.tag_of row.layout ≤ 1 → is_ended_in thread o front ≡ false
+  alive_there : (past : List (Turn L P O R)) (row : Row L P O R) (is : IsRow F declared o past row) (front : List (Entry O R)) (parts : List P) → Stands past row is front parts → F.tag_of row.layout ≤ 1 → is_ended_in thread o front ≡ false
   alive_there past row is front parts s live =
-      subst (λ (object : OneThread S). is_ended_in object o front ≡ (F.tag_of row.layout == 2)) is.kind
-      (ended_by_tag F laws row.layout is.known o (length past) front parts (subst (λ (object : OneThread S). StandsBehind F laws row.layout is.known o (length past) object front parts) (sym is.kind) s))
+      subst (λ (object : OneThread S O R). is_ended_in object o front ≡ (F.tag_of row.layout == 2)) is.kind
+      (ended_by_tag F laws row.layout is.known o (length past) front parts (subst (λ (object : OneThread S O R). StandsBehind F laws row.layout is.known o (length past) object front parts) (sym is.kind) s))
       ∙ ne_eqb (F.tag_of row.layout) 2 (λ two. absurd (omega arith))
 
   -- the entry with which the next row begins is that of a legal swap
-  hand_legal : (past : List (Turn L P)) (row : Row L P) (is : IsRow F declared o past row) (front : List Entry) (parts : List P) (layout : L) (e : Entry)
+  hand_legal : (past : List (Turn L P O R)) (row : Row L P O R) (is : IsRow F declared o past row) (front : List (Entry O R)) (parts : List P) (layout : L) (e : Entry O R)
       → Stands past row is front parts → F.tag_of row.layout ≤ 1 → length past < LAST_INCARNATION → IsHandOf (F.act_of layout) o (suc (length past)) e → IsActSoFar thread front e e.act
   hand_legal past row is front parts layout e s live unspent hand =
-      by_answer thread front e e.act (ap is_call hand.act ∙ laws.asks layout) (subst (λ (answer : Answer). IsAnswerSoFar thread front e answer) (sym hand.answer) (record {
+      by_answer thread front e e.act (ap is_call hand.act ∙ laws.asks layout) (subst (λ (answer : Answer R). IsAnswerSoFar thread front e answer) (sym hand.answer) (record {
         next = omega (arith, sym s.counted ∙ ap (λ n. number_of n front) (sym hand.object));
         alive = ap (λ n. is_ended_in thread n front) hand.object ∙ alive_there past row is front parts s live;
         unspent = rw (hand.object, s.counted) unspent;
@@ -59,14 +59,14 @@ module _ {S L P : Type 0} (F : Layouts S L P) (laws : AreLaws F) (declared : L) 
       }))
 
   -- and the next row stands for what is told after it
-  hand_stands : (past : List (Turn L P)) (turn : Turn L P) (is : IsTurn F declared o past turn) (front : List Entry) → Stands past turn.row is.row front (parts_of F turn.row)
-      → (row : Row L P) (next : IsRow F declared o (turn ∷ past) row) → Stands (turn ∷ past) row next (front ++ turn.done ∷ []) row.start
+  hand_stands : (past : List (Turn L P O R)) (turn : Turn L P O R) (is : IsTurn F declared o past turn) (front : List (Entry O R)) → Stands past turn.row is.row front (parts_of F turn.row)
+      → (row : Row L P O R) (next : IsRow F declared o (turn ∷ past) row) → Stands (turn ∷ past) row next (front ++ turn.done ∷ []) row.start
   hand_stands past turn is front s row next =
       let e = turn.done in
       let old = state_of F turn.row in
       let serves = laws.admits row.layout turn.row.layout old next.known is.live (is.row.kind ∙ sym next.kind) (laws.stands turn.row.layout (parts_of F turn.row) is.row.known s.whole).served in
       let imported = laws.imports row.layout (F.admitted row.layout old) next.known serves in
-      let moved = subst (λ (object : OneThread S). state_moved object old (F.act_of row.layout) (Swapped (suc (length past))) ≡ F.admitted row.layout old) next.kind (laws.swaps row.layout old next.known (suc (length past))) in
+      let moved = subst (λ (object : OneThread S O R). state_moved object old (F.act_of row.layout) (Swapped (suc (length past))) ≡ F.admitted row.layout old) next.kind (laws.swaps row.layout old next.known (suc (length past))) in
       record {
         whole = subst (F.Whole row.layout F.procs) (sym next.started) imported.whole;
         state = state_after_own thread o front e next.begun.object ∙ (ap (λ state. state_moved thread state e.act e.answer) s.state
@@ -76,11 +76,11 @@ module _ {S L P : Type 0} (F : Layouts S L P) (laws : AreLaws F) (declared : L) 
       }
 
   -- the entries before a row, and how it begins
-  pub record Begun (past : List (Turn L P)) (row : Row L P) (is : IsRow F declared o past row) : Type 0 where
+  pub record Begun (past : List (Turn L P O R)) (row : Row L P O R) (is : IsRow F declared o past row) : Type 0 where
     pub legal : EachBehind (LegalBehind thread) [] (past_entries past)
     pub stands : Stands past row is (past_entries past) row.start
 
-  pub begun : F.tag_of declared ≤ 1 → (past : List (Turn L P)) → ArePast F declared o past → (row : Row L P) (is : IsRow F declared o past row) → Begun past row is
+  pub begun : F.tag_of declared ≤ 1 → (past : List (Turn L P O R)) → ArePast F declared o past → (row : Row L P O R) (is : IsRow F declared o past row) → Begun past row is
   begun live [] turns row is =
       let begins = laws.begins row.layout is.known in
       record {
@@ -102,7 +102,7 @@ module _ {S L P : Type 0} (F : Layouts S L P) (laws : AreLaws F) (declared : L) 
         stands = rw (← append_assoc (past_entries past) turn.row.entries (turn.done ∷ [])) (hand_stands past turn turns.0 front runs.stands row is);
       }
 
-  module _ (histories : ℕ → ℕ → List Entry) (chain : Chain L P) (fits : Fits F declared o histories chain) where
+  module _ (histories : ℕ → ℕ → List (Entry O R)) (chain : Chain L P O R) (fits : Fits F declared o histories chain) where
     last_runs : RunsOn F laws chain.row.layout fits.row.known o (length chain.past) thread (past_entries chain.past) chain.row.entries chain.row.start
     last_runs = row_runs chain.past chain.row fits.row (past_entries chain.past) (begun fits.declared_live chain.past fits.past chain.row fits.row).stands
 

@@ -11,15 +11,15 @@ use Rattle.k42_stamp.proofs.Elements.{all_in, in_left, in_right, in-append}
 use Rattle.k42_stamp.proofs.Ordering.{Ordered-append, same_entries}
 use Rattle.k42_stamp.proofs.Numbering.{length-numbered_from, numbered_from-append}
 
-pub one_merge : (first : ℕ) (lists : List (List Entry)) (one other : List Entry) → IsMergedFrom first lists one → IsMergedFrom first lists other → one ≡ other
-one_merge first lists one other this that =
-    let there = λ (e : Entry) (has : In e this.trace). that.just.all e (this.just.only e has) in
-    let back = λ (e : Entry) (has : In e that.trace). this.just.all e (that.just.only e has) in
+pub one_merge : {O R : Type 0} (first : ℕ) (lists : List (List (Entry O R))) (one other : List (Entry O R)) → IsMergedFrom first lists one → IsMergedFrom first lists other → one ≡ other
+one_merge {O} {R} first lists one other this that =
+    let there = λ (e : Entry O R) (has : In e this.trace). that.just.all e (this.just.only e has) in
+    let back = λ (e : Entry O R) (has : In e that.trace). this.just.all e (that.just.only e has) in
     this.numbered ∙ (ap (numbered_from first) (same_entries this.trace that.trace this.just.ordered that.just.ordered there back) ∙ sym that.numbered)
 
-module _ (last : ℕ) (lists fronts rests : List (List Entry)) (cut : AreCutAt last lists fronts rests) where
+module _ {O R : Type 0} (last : ℕ) (lists fronts rests : List (List (Entry O R))) (cut : AreCutAt last lists fronts rests) where
   -- an entry of a front or of a rest is one of the list, and the reverse
-  of_front : (e : Entry) → InSome fronts e → InSome lists e
+  of_front : (e : Entry O R) → InSome fronts e → InSome lists e
   of_front e is =
       let within = slice_get_within fronts is.place is.list is.there in
       let list = get_or lists is.place [] in
@@ -29,7 +29,7 @@ module _ (last : ℕ) (lists fronts rests : List (List Entry)) (cut : AreCutAt l
       let joined = cut.joined is.place list is.list rest at is.there rest_at in
       record { place = is.place; list = list; there = at; has = subst (In e) (sym joined) (in_left e is.list rest is.has) }
 
-  of_rest : (e : Entry) → InSome rests e → InSome lists e
+  of_rest : (e : Entry O R) → InSome rests e → InSome lists e
   of_rest e is =
       let within = slice_get_within rests is.place is.list is.there in
       let list = get_or lists is.place [] in
@@ -39,7 +39,7 @@ module _ (last : ℕ) (lists fronts rests : List (List Entry)) (cut : AreCutAt l
       let joined = cut.joined is.place list front is.list at front_at is.there in
       record { place = is.place; list = list; there = at; has = subst (In e) (sym joined) (in_right e front is.list is.has) }
 
-  in_either : (e : Entry) → InSome lists e → InSome fronts e ⊎ InSome rests e
+  in_either : (e : Entry O R) → InSome lists e → InSome fronts e ⊎ InSome rests e
   in_either e is =
       let within = slice_get_within lists is.place is.list is.there in
       let front = get_or fronts is.place [] in
@@ -52,8 +52,8 @@ module _ (last : ℕ) (lists fronts rests : List (List Entry)) (cut : AreCutAt l
         | inr late ↦ inr (record { place = is.place; list = rest; there = rest_at; has = late })
       ]
 
-  module _ (front rest : List Entry) (was : IsTrace fronts front) (is : IsTrace rests rest) where
-    front_before : (e : Entry) → In e front → AllByRecursion (IsBefore e) rest
+  module _ (front rest : List (Entry O R)) (was : IsTrace fronts front) (is : IsTrace rests rest) where
+    front_before : (e : Entry O R) → In e front → AllByRecursion (IsBefore e) rest
     front_before e has = all_in (IsBefore e) rest (λ f late. inl (omega (arith, cut.early e (was.only e has), cut.late f (is.only f late))))
 
     whole_trace : IsTrace lists (front ++ rest)
@@ -63,7 +63,7 @@ module _ (last : ℕ) (lists fronts rests : List (List Entry)) (cut : AreCutAt l
       only = λ e has. elim (in-append e front rest has) [ inl early ↦ of_front e (was.only e early) | inr late ↦ of_rest e (is.only e late) ];
     }
 
-pub sections_merged : (last : ℕ) (lists fronts rests : List (List Entry)) (before section : List Entry) → AreCutAt last lists fronts rests
+pub sections_merged : {O R : Type 0} (last : ℕ) (lists fronts rests : List (List (Entry O R))) (before section : List (Entry O R)) → AreCutAt last lists fronts rests
     → IsMerged fronts before → IsMergedFrom (length before + 1) rests section → IsMerged lists (before ++ section)
 sections_merged last lists fronts rests before section cut was is =
     let many : length before ≡ length was.trace = ap length was.numbered ∙ length-numbered_from 1 was.trace in

@@ -49,20 +49,20 @@ wider : (fewer more : ℕ) (r : Reach) → fewer ≤ more → IsWithin fewer r �
 wider fewer more (One c) le h = omega arith
 wider fewer more All le h = omega arith
 
-module _ {S L P : Type 0} (F : Layouts S L P) (laws : AreLaws F) (layout : L) (known : F.tag_of layout ≤ 2) where
-  act_within : (number caller : ℕ) (act : Act) (answer : Answer) → IsCallOrMark (F.object_of layout) (F.tag_of layout) number act answer → IsWithin F.procs (reached (F.ways_of layout) F.procs act (F.proc_of caller))
+module _ {S L P O R : Type 0} (F : Layouts S L P O R) (laws : AreLaws F) (layout : L) (known : F.tag_of layout ≤ 2) where
+  act_within : (number caller : ℕ) (act : Act O) (answer : Answer R) → IsCallOrMark (F.object_of layout) (F.tag_of layout) number act answer → IsWithin F.procs (reached (F.ways_of layout) F.procs act (F.proc_of caller))
   act_within number caller (Call op) answer served = wider (cells_of (F.tag_of layout) F.procs) F.procs ((F.ways_of layout).reach F.procs op (F.proc_of caller)) (few_cells (F.tag_of layout) F.procs laws.some) (laws.reaches layout (F.proc_of caller) op known (laws.on_one caller) served)
   act_within number caller (Swap to) answer served = laws.some
 
   -- what an entry of a row needs is in the row
-  pub entry_within : (o number : ℕ) (e : Entry) → IsEntryOf F layout o number e → IsWithin F.procs (reach_of F layout e)
+  pub entry_within : (o number : ℕ) (e : Entry O R) → IsEntryOf F layout o number e → IsWithin F.procs (reach_of F layout e)
   entry_within o number e own = act_within number e.caller e.act e.answer own.served
 
-  pub all_within : (o number : ℕ) (es : List Entry) → AllByRecursion (IsEntryOf F layout o number) es → AllByRecursion (λ e. IsWithin F.procs (reach_of F layout e)) es
+  pub all_within : (o number : ℕ) (es : List (Entry O R)) → AllByRecursion (IsEntryOf F layout o number) es → AllByRecursion (λ e. IsWithin F.procs (reach_of F layout e)) es
   all_within o number es own = all_weaker (IsEntryOf F layout o number) (λ e. IsWithin F.procs (reach_of F layout e)) (λ e h. entry_within o number e h) es own
 
   -- what the histories at some cells tell of all entries is true of those that need one of these cells
-  pub entries_told : (P : Entry → Type 0) (Some : ℕ → Type 0) (history : ℕ → List Entry) (first es : List Entry)
+  pub entries_told : (P : Entry O R → Type 0) (Some : ℕ → Type 0) (history : ℕ → List (Entry O R)) (first es : List (Entry O R))
       → ((c : ℕ) → c < F.procs → history c ≡ first ++ those_at F layout c es)
       → ((c : ℕ) → c < F.procs → Some c → AllByRecursion P (history c))
       → AllByRecursion (λ f. (t : (c : ℕ) × (c < F.procs) × Some c) → touches (reach_of F layout f) t.0 ≡ true → P f) es
@@ -70,7 +70,7 @@ module _ {S L P : Type 0} (F : Layouts S L P) (laws : AreLaws F) (layout : L) (k
       (λ t. all-from_filter P (λ f. touches (reach_of F layout f) t.0) es (all_back P first (those_at F layout t.0 es) (rw (left t.0 t.1) at (all t.0 t.1 t.2))))
 
   -- what all histories tell of all entries is true of all entries of the row
-  pub entries_all : (P : Entry → Type 0) (o number : ℕ) (history : ℕ → List Entry) (first es : List Entry) → AllByRecursion (IsEntryOf F layout o number) es
+  pub entries_all : (P : Entry O R → Type 0) (o number : ℕ) (history : ℕ → List (Entry O R)) (first es : List (Entry O R)) → AllByRecursion (IsEntryOf F layout o number) es
       → ((c : ℕ) → c < F.procs → history c ≡ first ++ those_at F layout c es) → ((c : ℕ) → c < F.procs → AllByRecursion P (history c)) → AllByRecursion P es
   entries_all P o number history first es own left all =
       all_weaker (λ f. IsWithin F.procs (reach_of F layout f) × ((t : (c : ℕ) × (c < F.procs) × Unit {0}) → touches (reach_of F layout f) t.0 ≡ true → P f)) P
@@ -79,12 +79,12 @@ module _ {S L P : Type 0} (F : Layouts S L P) (laws : AreLaws F) (layout : L) (k
       (all_within o number es own) (entries_told P (λ _. Unit {0}) history first es left (λ c lt _. all c lt)))
 
 -- an entry that is later than all that a cell has is above the entry with which the row began
-pub first_above : {L P : Type 0} (past : List (Turn L P)) (rest : List Entry) (e : Entry) → AllByRecursion (λ f. f.stamp < e.stamp) (first_of past ++ rest) → IsAbove past e
+pub first_above : {L P O R : Type 0} (past : List (Turn L P O R)) (rest : List (Entry O R)) (e : Entry O R) → AllByRecursion (λ f. f.stamp < e.stamp) (first_of past ++ rest) → IsAbove past e
 first_above [] rest e h = tt
 first_above (turn ∷ past) rest e h = h.0
 
 -- histories that are the same at the rows before are those that the past leaves
-pub past_left-same : {S L P : Type 0} (F : Layouts S L P) (past : List (Turn L P)) (old new : ℕ → ℕ → List Entry) → ((row cell : ℕ) → row < length past → new row cell ≡ old row cell) → PastLeaves F old past → PastLeaves F new past
+pub past_left-same : {S L P O R : Type 0} (F : Layouts S L P O R) (past : List (Turn L P O R)) (old new : ℕ → ℕ → List (Entry O R)) → ((row cell : ℕ) → row < length past → new row cell ≡ old row cell) → PastLeaves F old past → PastLeaves F new past
 past_left-same F [] old new same left = tt
 past_left-same F (turn ∷ past) old new same left = (
   (λ cell lt. same (length past) cell (omega arith) ∙ left.0 cell lt),

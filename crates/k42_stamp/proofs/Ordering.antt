@@ -98,17 +98,17 @@ below_or (m ∷ ms) (n ∷ ns) e =
     (cases_lt n m))
     (cases_lt m n)
 
-pub before-trans : (x y z : Entry) → IsBefore x y → IsBefore y z → IsBefore x z
+pub before-trans : {O R : Type 0} (x y z : Entry O R) → IsBefore x y → IsBefore y z → IsBefore x z
 before-trans x y z a b = below-trans (key_of x) (key_of y) (key_of z) a b
 
-pub before-irreflexive : (x : Entry) → IsBefore x x → ⊥
+pub before-irreflexive : {O R : Type 0} (x : Entry O R) → IsBefore x x → ⊥
 before-irreflexive x h = below-irreflexive (key_of x) h
 
-pub before_stamp : (e f : Entry) → IsBefore e f → e.stamp ≤ f.stamp
+pub before_stamp : {O R : Type 0} (e f : Entry O R) → IsBefore e f → e.stamp ≤ f.stamp
 before_stamp e f b = ⊎_elim {C = e.stamp ≤ f.stamp} (λ (h : e.stamp < f.stamp). omega arith) (λ h. let i : e.stamp ≡ f.stamp = h.0 in omega arith) b
 
 -- entries whose callers or stamps differ are on one side of each other
-pub side_of : (e f : Entry) → (f.caller ≡ e.caller → f.stamp < e.stamp) → IsBefore f e ⊎ IsBefore e f
+pub side_of : {O R : Type 0} (e f : Entry O R) → (f.caller ≡ e.caller → f.stamp < e.stamp) → IsBefore f e ⊎ IsBefore e f
 side_of e f h =
     ⊎_elim {C = IsBefore f e ⊎ IsBefore e f}
     (λ (b : IsBefore f e). inl b)
@@ -119,5 +119,5 @@ side_of e f h =
     (below_or (key_of f) (key_of e) refl)
 
 -- two lists of entries in order with the same entries are one
-pub same_entries : (xs ys : List Entry) → Ordered IsBefore xs → Ordered IsBefore ys → ((e : Entry) → In e xs → In e ys) → ((e : Entry) → In e ys → In e xs) → xs ≡ ys
+pub same_entries : {O R : Type 0} (xs ys : List (Entry O R)) → Ordered IsBefore xs → Ordered IsBefore ys → ((e : Entry O R) → In e xs → In e ys) → ((e : Entry O R) → In e ys → In e xs) → xs ≡ ys
 same_entries xs ys o p h g = ordered_unique IsBefore before-trans before-irreflexive xs ys o p h g

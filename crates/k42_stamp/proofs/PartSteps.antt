@@ -1,6 +1,5 @@
 -- Entries at different cells of a row have nothing to do with each other, and what an entry does to the part of a cell.
 use Rattle.std.proofs.Common.{◌≡◌, ◌≢◌, ℕ, zero, suc, option_map, List, [], ◌∷◌, refl, sym, ap}
-use Rattle.k42_kinds.specs.declared.operation.Op.{Op}
 use Rattle.k42_kinds.specs.declared.entry.Act.{Act}
 use Rattle.k42_kinds.specs.declared.entry.Act.TheVariants.{Call, Swap}
 use Rattle.k42_kinds.specs.declared.entry.Reach.{Reach}
@@ -37,39 +36,39 @@ AreDisjoint (One c) (One d) = c ≢ d
 AreDisjoint (One c) All = ⊥
 AreDisjoint All r = ⊥
 
-module _ {S P : Type 0} (w : Ways S P) where
-  rows-swap : (parts : List P) (o p : Op) (r s : Reach) → AreDisjoint r s → row_moved w (row_moved w parts o r) p s ≡ row_moved w (row_moved w parts p s) o r
+module _ {S P O R : Type 0} (w : Ways S P O R) where
+  rows-swap : (parts : List P) (o p : O) (r s : Reach) → AreDisjoint r s → row_moved w (row_moved w parts o r) p s ≡ row_moved w (row_moved w parts p s) o r
   rows-swap parts o p (One c) (One d) n = changed-swap (λ x. w.part_after x o) (λ x. w.part_after x p) parts c d n
   rows-swap parts o p (One c) All n = absurd n
   rows-swap parts o p All s n = absurd n
 
-  rows-first : (parts : List P) (o p : Op) (r s : Reach) → AreDisjoint r s → row_replied w (row_moved w parts p s) o r ≡ row_replied w parts o r
+  rows-first : (parts : List P) (o p : O) (r s : Reach) → AreDisjoint r s → row_replied w (row_moved w parts p s) o r ≡ row_replied w parts o r
   rows-first parts o p (One c) (One d) n = ap (option_map (λ x. w.part_reply x o)) (part_at-else (λ x. w.part_after x p) parts d c (λ e. n (sym e)))
   rows-first parts o p (One c) All n = absurd n
   rows-first parts o p All s n = absurd n
 
-  rows-second : (parts : List P) (o p : Op) (r s : Reach) → AreDisjoint r s → row_replied w (row_moved w parts o r) p s ≡ row_replied w parts p s
+  rows-second : (parts : List P) (o p : O) (r s : Reach) → AreDisjoint r s → row_replied w (row_moved w parts o r) p s ≡ row_replied w parts p s
   rows-second parts o p (One c) (One d) n = ap (option_map (λ x. w.part_reply x p)) (part_at-else (λ x. w.part_after x o) parts c d n)
   rows-second parts o p (One c) All n = absurd n
   rows-second parts o p All s n = absurd n
 
-  acts-swap : (parts : List P) (a b : Act) (r s : Reach) → AreDisjoint r s → act_moves w (act_moves w parts a r) b s ≡ act_moves w (act_moves w parts b s) a r
+  acts-swap : (parts : List P) (a b : Act O) (r s : Reach) → AreDisjoint r s → act_moves w (act_moves w parts a r) b s ≡ act_moves w (act_moves w parts b s) a r
   acts-swap parts (Call o) (Call p) r s n = rows-swap parts o p r s n
   acts-swap parts (Call o) (Swap to) r s n = refl
   acts-swap parts (Swap to) b r s n = refl
 
-  acts-first : (parts : List P) (a b : Act) (r s : Reach) → AreDisjoint r s → act_replies w (act_moves w parts b s) a r ≡ act_replies w parts a r
+  acts-first : (parts : List P) (a b : Act O) (r s : Reach) → AreDisjoint r s → act_replies w (act_moves w parts b s) a r ≡ act_replies w parts a r
   acts-first parts (Call o) (Call p) r s n = rows-first parts o p r s n
   acts-first parts (Call o) (Swap to) r s n = refl
   acts-first parts (Swap to) b r s n = refl
 
-  acts-second : (parts : List P) (a b : Act) (r s : Reach) → AreDisjoint r s → act_replies w (act_moves w parts a r) b s ≡ act_replies w parts b s
+  acts-second : (parts : List P) (a b : Act O) (r s : Reach) → AreDisjoint r s → act_replies w (act_moves w parts a r) b s ≡ act_replies w parts b s
   acts-second parts (Call o) (Call p) r s n = rows-second parts o p r s n
   acts-second parts (Call o) (Swap to) r s n = refl
   acts-second parts (Swap to) b r s n = refl
 
 -- entries that need no cell both
-pub parts_apart : {S L P : Type 0} (F : Layouts S L P) (layout : L) → AreApart (part_steps F layout) (λ e f. AreDisjoint (reach_of F layout e) (reach_of F layout f))
+pub parts_apart : {S L P O R : Type 0} (F : Layouts S L P O R) (layout : L) → AreApart (part_steps F layout) (λ e f. AreDisjoint (reach_of F layout e) (reach_of F layout f))
 parts_apart F layout = record {
   swap = λ x e f n. acts-swap (F.ways_of layout) x e.act f.act (reach_of F layout e) (reach_of F layout f) n;
   first = λ x e f n. acts-first (F.ways_of layout) x e.act f.act (reach_of F layout e) (reach_of F layout f) n;

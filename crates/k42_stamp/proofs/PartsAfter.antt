@@ -1,6 +1,5 @@
 -- The parts of a row: how they begin, what an entry adds to them, and that they are whole.
 use Rattle.std.proofs.Common.{◌≡◌, ◌≢◌, ℕ, zero, suc, ◌+◌, ◌<◌, ◌≤◌, false, List, [], ◌∷◌, length, Some, None, option_map, refl, ap, ◌∙◌, arith}
-use Rattle.k42_kinds.specs.declared.operation.Op.{Op}
 use Rattle.k42_kinds.specs.declared.entry.Act.{Act}
 use Rattle.k42_kinds.specs.declared.entry.Act.TheVariants.{Call, Swap}
 use Rattle.k42_kinds.specs.declared.entry.Entry.{Entry}
@@ -16,17 +15,17 @@ use Rattle.k42_stamp.specs.Laws.{AreLaws}
 use Rattle.k42_stamp.proofs.PartSteps.{part_at-changed, part_at-else}
 use Rattle.k42_stamp.proofs.Lawful.{begun, row_runs, chain_stands}
 
-act_else : {S P : Type 0} (w : Ways S P) (parts : List P) (act : Act) (c d : ℕ) → c ≢ d → part_at (act_moves w parts act (One c)) d ≡ part_at parts d
+act_else : {S P O R : Type 0} (w : Ways S P O R) (parts : List P) (act : Act O) (c d : ℕ) → c ≢ d → part_at (act_moves w parts act (One c)) d ≡ part_at parts d
 act_else w parts (Call op) c d other = part_at-else (λ part. w.part_after part op) parts c d other
 act_else w parts (Swap to) c d other = refl
 
-act_none : {S P : Type 0} (w : Ways S P) (parts : List P) (act : Act) (r : Reach) → is_call act ≡ false → act_moves w parts act r ≡ parts
+act_none : {S P O R : Type 0} (w : Ways S P O R) (parts : List P) (act : Act O) (r : Reach) → is_call act ≡ false → act_moves w parts act r ≡ parts
 act_none w parts (Call op) r other = cc other
 act_none w parts (Swap to) r other = refl
 
-module _ {S L P : Type 0} (F : Layouts S L P) (layout : L) (parts : List P) (e : Entry) where
+module _ {S L P O R : Type 0} (F : Layouts S L P O R) (layout : L) (parts : List P) (e : Entry O R) where
   -- a call at one cell moves its part
-  pub part_at-here : (op : Op) (cell : ℕ) → e.act ≡ Call op → reach_of F layout e ≡ One cell → part_at ((part_steps F layout).moves parts e) cell ≡ option_map (λ part. (F.ways_of layout).part_after part op) (part_at parts cell)
+  pub part_at-here : (op : O) (cell : ℕ) → e.act ≡ Call op → reach_of F layout e ≡ One cell → part_at ((part_steps F layout).moves parts e) cell ≡ option_map (λ part. (F.ways_of layout).part_after part op) (part_at parts cell)
   part_at-here op cell act reach =
       ap (λ r. part_at (act_moves (F.ways_of layout) parts e.act r) cell) reach
       ∙ (ap (λ a. part_at (act_moves (F.ways_of layout) parts a (One cell)) cell) act ∙ part_at-changed (λ part. (F.ways_of layout).part_after part op) parts cell)
@@ -36,7 +35,7 @@ module _ {S L P : Type 0} (F : Layouts S L P) (layout : L) (parts : List P) (e :
   part_at-other only cell reach other = ap (λ r. part_at (act_moves (F.ways_of layout) parts e.act r) cell) reach ∙ act_else (F.ways_of layout) parts e.act only cell other
 
   -- a call at all cells moves the row
-  pub parts-all : (op : Op) → e.act ≡ Call op → reach_of F layout e ≡ All → (part_steps F layout).moves parts e ≡ (F.ways_of layout).row_after parts op
+  pub parts-all : (op : O) → e.act ≡ Call op → reach_of F layout e ≡ All → (part_steps F layout).moves parts e ≡ (F.ways_of layout).row_after parts op
   parts-all op act reach = ap (λ r. act_moves (F.ways_of layout) parts e.act r) reach ∙ ap (λ a. act_moves (F.ways_of layout) parts a All) act
 
   -- what is no call moves nothing
@@ -44,12 +43,12 @@ module _ {S L P : Type 0} (F : Layouts S L P) (layout : L) (parts : List P) (e :
   parts-mark other = act_none (F.ways_of layout) parts e.act (reach_of F layout e) other
 
   -- what a call is answered at one cell, and at all
-  pub answers-one : (op : Op) (cell : ℕ) (part : P) → e.act ≡ Call op → reach_of F layout e ≡ One cell → part_at parts cell ≡ Some part → (part_steps F layout).answers parts e ≡ Some ((F.ways_of layout).part_reply part op)
+  pub answers-one : (op : O) (cell : ℕ) (part : P) → e.act ≡ Call op → reach_of F layout e ≡ One cell → part_at parts cell ≡ Some part → (part_steps F layout).answers parts e ≡ Some ((F.ways_of layout).part_reply part op)
   answers-one op cell part act reach there =
       ap (λ r. act_replies (F.ways_of layout) parts e.act r) reach
       ∙ (ap (λ a. act_replies (F.ways_of layout) parts a (One cell)) act ∙ ap (option_map (λ p. (F.ways_of layout).part_reply p op)) there)
 
-  pub answers-all : (op : Op) → e.act ≡ Call op → reach_of F layout e ≡ All → (part_steps F layout).answers parts e ≡ Some ((F.ways_of layout).row_reply parts op)
+  pub answers-all : (op : O) → e.act ≡ Call op → reach_of F layout e ≡ All → (part_steps F layout).answers parts e ≡ Some ((F.ways_of layout).row_reply parts op)
   answers-all op act reach = ap (λ r. act_replies (F.ways_of layout) parts e.act r) reach ∙ ap (λ a. act_replies (F.ways_of layout) parts a All) act
 
 part_at-made : {P : Type 0} (make : ℕ → P) (first many cell : ℕ) → cell < many → part_at (made_from make first many) cell ≡ Some (make (first + cell))
@@ -58,7 +57,7 @@ part_at-made make first (suc many) zero lt = let same : first ≡ first + 0 = om
 part_at-made make first (suc many) (suc cell) lt = let same : suc first + cell ≡ first + suc cell = omega arith in part_at-made make (suc first) many cell (omega arith) ∙ ap (λ n. Some (make n)) same
 
 -- a cell of the first row begins with its empty part
-pub part_at-empty : {S P : Type 0} (w : Ways S P) (tag procs cell : ℕ) → cell < cells_of tag procs → part_at (empty_row w tag procs) cell ≡ Some (w.empty procs cell)
+pub part_at-empty : {S P O R : Type 0} (w : Ways S P O R) (tag procs cell : ℕ) → cell < cells_of tag procs → part_at (empty_row w tag procs) cell ≡ Some (w.empty procs cell)
 part_at-empty w tag procs cell lt = let same : 0 + cell ≡ cell = omega arith in part_at-made (w.empty procs) 0 (cells_of tag procs) cell lt ∙ ap (λ n. Some (w.empty procs n)) same
 
 -- a cell that the parts do not reach has none
@@ -68,10 +67,10 @@ part_at-beyond (part ∷ parts) zero beyond = absurd (omega arith)
 part_at-beyond (part ∷ parts) (suc cell) beyond = part_at-beyond parts cell (omega arith)
 
 -- rows that nothing was drawn at
-pub fresh_chain : {S L P : Type 0} → Layouts S L P → L → Chain L P
+pub fresh_chain : {S L P O R : Type 0} → Layouts S L P O R → L → Chain L P O R
 fresh_chain F declared = record { past = []; row = record { layout = declared; start = empty_row (F.ways_of declared) (F.tag_of declared) F.procs; entries = [] } }
 
-pub fresh_fits : {S L P : Type 0} (F : Layouts S L P) (declared : L) (o : ℕ) (histories : ℕ → ℕ → List Entry) → F.tag_of declared ≤ 1 → ((cell : ℕ) → cell < F.procs → histories 0 cell ≡ []) → Fits F declared o histories (fresh_chain F declared)
+pub fresh_fits : {S L P O R : Type 0} (F : Layouts S L P O R) (declared : L) (o : ℕ) (histories : ℕ → ℕ → List (Entry O R)) → F.tag_of declared ≤ 1 → ((cell : ℕ) → cell < F.procs → histories 0 cell ≡ []) → Fits F declared o histories (fresh_chain F declared)
 unfolding fresh_chain
 fresh_fits F declared o histories live none = record {
   declared_live = live;
@@ -81,7 +80,7 @@ fresh_fits F declared o histories live none = record {
   left = none;
 }
 
-past_left-within : {S L P : Type 0} (F : Layouts S L P) (old new : ℕ → ℕ → List Entry) (past : List (Turn L P)) → ((row cell : ℕ) → row < length past → cell < F.procs → new row cell ≡ old row cell) → PastLeaves F old past → PastLeaves F new past
+past_left-within : {S L P O R : Type 0} (F : Layouts S L P O R) (old new : ℕ → ℕ → List (Entry O R)) (past : List (Turn L P O R)) → ((row cell : ℕ) → row < length past → cell < F.procs → new row cell ≡ old row cell) → PastLeaves F old past → PastLeaves F new past
 past_left-within F old new [] same left = tt
 past_left-within F old new (turn ∷ past) same left = (
   (λ cell inside. same (length past) cell (omega arith) inside ∙ left.0 cell inside),
@@ -89,7 +88,7 @@ past_left-within F old new (turn ∷ past) same left = (
 )
 
 -- histories that are the same at all rows that there are fit the same rows
-pub fits-same : {S L P : Type 0} (F : Layouts S L P) (declared : L) (o : ℕ) (old new : ℕ → ℕ → List Entry) (chain : Chain L P) → ((row cell : ℕ) → row ≤ length chain.past → cell < F.procs → new row cell ≡ old row cell) → Fits F declared o old chain → Fits F declared o new chain
+pub fits-same : {S L P O R : Type 0} (F : Layouts S L P O R) (declared : L) (o : ℕ) (old new : ℕ → ℕ → List (Entry O R)) (chain : Chain L P O R) → ((row cell : ℕ) → row ≤ length chain.past → cell < F.procs → new row cell ≡ old row cell) → Fits F declared o old chain → Fits F declared o new chain
 fits-same F declared o old new chain same fits = record {
   declared_live = fits.declared_live;
   past = fits.past;
@@ -98,7 +97,7 @@ fits-same F declared o old new chain same fits = record {
   left = λ cell inside. same (length chain.past) cell (omega arith) inside ∙ fits.left cell inside;
 }
 
-module _ {S L P : Type 0} (F : Layouts S L P) (laws : AreLaws F) (declared : L) (o : ℕ) (histories : ℕ → ℕ → List Entry) (chain : Chain L P) (fits : Fits F declared o histories chain) where
+module _ {S L P O R : Type 0} (F : Layouts S L P O R) (laws : AreLaws F) (declared : L) (o : ℕ) (histories : ℕ → ℕ → List (Entry O R)) (chain : Chain L P O R) (fits : Fits F declared o histories chain) where
   -- the parts of the row that the object has now
   pub parts_whole : F.Whole chain.row.layout F.procs (parts_of F chain.row)
   parts_whole = (chain_stands F laws declared o histories chain fits).whole
@@ -107,5 +106,5 @@ module _ {S L P : Type 0} (F : Layouts S L P) (laws : AreLaws F) (declared : L) 
   parts_sized = (laws.stands chain.row.layout (parts_of F chain.row) fits.row.known parts_whole).sized
 
 -- and those of a row that was handed on
-pub turn_whole : {S L P : Type 0} (F : Layouts S L P) (laws : AreLaws F) (declared : L) (o : ℕ) (live : F.tag_of declared ≤ 1) (turn : Turn L P) (past : List (Turn L P)) → IsTurn F declared o past turn → ArePast F declared o past → F.Whole turn.row.layout F.procs (parts_of F turn.row)
+pub turn_whole : {S L P O R : Type 0} (F : Layouts S L P O R) (laws : AreLaws F) (declared : L) (o : ℕ) (live : F.tag_of declared ≤ 1) (turn : Turn L P O R) (past : List (Turn L P O R)) → IsTurn F declared o past turn → ArePast F declared o past → F.Whole turn.row.layout F.procs (parts_of F turn.row)
 turn_whole F laws declared o live turn past is turns = (row_runs F laws declared o past turn.row is.row _ (begun F laws declared o live past turns turn.row is.row).stands).stands.whole

@@ -4,8 +4,6 @@ use Rattle.std.specs.List.{AllByRecursion}
 use Rattle.std.proofs.lemmas.Bool.{eq-eqb, ne_eqb}
 use Rattle.std.proofs.lemmas.List.{append-nil}
 use Rattle.std.proofs.lemmas.Option.{same_Some}
-use Rattle.k42_kinds.specs.declared.operation.Op.{Op}
-use Rattle.k42_kinds.specs.declared.operation.Reply.{Reply}
 use Rattle.k42_kinds.specs.declared.entry.Act.{Act}
 use Rattle.k42_kinds.specs.declared.entry.Act.TheVariants.{Call, Swap}
 use Rattle.k42_kinds.specs.declared.entry.To.{To}
@@ -25,11 +23,11 @@ use Rattle.k42_stamp.specs.Fits.{IsMark, IsCallOrMark, IsEntryOf}
 use Rattle.k42_stamp.specs.Laws.{AreLaws}
 
 -- an entry that is legal by those before it
-abbrev pub LegalBehind : {S : Type 0} → OneThread S → List Entry → Entry → List Entry → Type 0
+abbrev pub LegalBehind : {S O R : Type 0} → OneThread S O R → List (Entry O R) → Entry O R → List (Entry O R) → Type 0
 LegalBehind object before entry after = IsActSoFar object before entry entry.act
 
 -- a call tells its reply
-replied_from : (answer : Answer) (reply : Reply) → reply_in answer ≡ Some reply → answer ≡ Replied reply
+replied_from : {R : Type 0} (answer : Answer R) (reply : R) → reply_in answer ≡ Some reply → answer ≡ Replied reply
 replied_from (Replied told) reply is = ap Replied (same_Some told reply is)
 replied_from (Swapped number) reply is = cc is
 replied_from (Busy number) reply is = cc is
@@ -38,36 +36,36 @@ replied_from Gone reply is = cc is
 replied_from (Abandoned number) reply is = cc is
 
 -- entries of the object move it, and only what was carried out is counted
-pub state_after_own : {S : Type 0} (object : OneThread S) (o : ℕ) (front : List Entry) (e : Entry) → e.object ≡ o → state_in object o (front ++ e ∷ []) ≡ state_moved object (state_in object o front) e.act e.answer
+pub state_after_own : {S O R : Type 0} (object : OneThread S O R) (o : ℕ) (front : List (Entry O R)) (e : Entry O R) → e.object ≡ o → state_in object o (front ++ e ∷ []) ≡ state_moved object (state_in object o front) e.act e.answer
 state_after_own object o front e own = state_in-push object o front e ∙ rw (eq-eqb e.object o own) refl
 
-pub number_after_own : (o : ℕ) (front : List Entry) (e : Entry) (b : Bool) → e.object ≡ o → is_carried_out e.answer ≡ b → number_of o (front ++ e ∷ []) ≡ number_of o front + cond b 1 0
+pub number_after_own : {O R : Type 0} (o : ℕ) (front : List (Entry O R)) (e : Entry O R) (b : Bool) → e.object ≡ o → is_carried_out e.answer ≡ b → number_of o (front ++ e ∷ []) ≡ number_of o front + cond b 1 0
 number_after_own o front e b own out = number_of-push o front e ∙ rw (eq-eqb e.object o own, out) refl
 
-module _ {S L P : Type 0} (F : Layouts S L P) (laws : AreLaws F) (layout : L) (known : F.tag_of layout ≤ 2) (o number : ℕ) where
+module _ {S L P O R : Type 0} (F : Layouts S L P O R) (laws : AreLaws F) (layout : L) (known : F.tag_of layout ≤ 2) (o number : ℕ) where
   -- the row is whole, and stands for what the entries before tell of the object
-  pub record StandsBehind (object : OneThread S) (front : List Entry) (parts : List P) : Type 0 where
+  pub record StandsBehind (object : OneThread S O R) (front : List (Entry O R)) (parts : List P) : Type 0 where
     pub whole : F.Whole layout F.procs parts
     pub state : state_in object o front ≡ (F.ways_of layout).combine parts
     pub counted : number_of o front ≡ number
 
-  abbrev here : OneThread S
+  abbrev here : OneThread S O R
   here = F.object_of layout
 
   -- an entry is legal, and the row after it stands for what is told after it
-  pub record StepsOn (front : List Entry) (e : Entry) (parts : List P) : Type 0 where
+  pub record StepsOn (front : List (Entry O R)) (e : Entry O R) (parts : List P) : Type 0 where
     pub legal : IsActSoFar here front e e.act
     pub stands : StandsBehind here (front ++ e ∷ []) ((part_steps F layout).moves parts e)
 
   -- whether the object is at its end is told by the tag
-  pub ended_by_tag : (front : List Entry) (parts : List P) → StandsBehind here front parts → is_ended_in here o front ≡ (F.tag_of layout == 2)
+  pub ended_by_tag : (front : List (Entry O R)) (parts : List P) → StandsBehind here front parts → is_ended_in here o front ≡ (F.tag_of layout == 2)
   ended_by_tag front parts s = ap here.is_ended s.state ∙ laws.ends layout ((F.ways_of layout).combine parts) known (laws.stands layout parts known s.whole).served
 
-  module _ (front : List Entry) (e : Entry) (parts : List P) (s : StandsBehind here front parts) (own : e.object ≡ o) (named : e.incarnation ≡ number) where
+  module _ (front : List (Entry O R)) (e : Entry O R) (parts : List P) (s : StandsBehind here front parts) (own : e.object ≡ o) (named : e.incarnation ≡ number) where
     named_before : e.incarnation ≡ number_of e.object front
     named_before = named ∙ (sym s.counted ∙ ap (λ n. number_of n front) (sym own))
 
-    call_step : (op : Op) → e.act ≡ Call op → IsTrue (here.takes op)
+    call_step : (op : O) → e.act ≡ Call op → IsTrue (here.takes op)
         → StepsRow here (F.ways_of layout) (F.Whole layout F.procs) parts op (reach_of F layout e)
         → act_replies (F.ways_of layout) parts (Call op) (reach_of F layout e) ≡ reply_in e.answer
         → StepsOn front e parts
@@ -75,13 +73,13 @@ module _ {S L P : Type 0} (F : Layouts S L P) (laws : AreLaws F) (layout : L) (k
         let answered : e.answer ≡ Replied (here.reply ((F.ways_of layout).combine parts) op) = replied_from e.answer (here.reply ((F.ways_of layout).combine parts) op) (sym told ∙ steps.replied) in
         let still : is_carried_out e.answer ≡ false = ap is_carried_out answered in
         record {
-          legal = subst (λ (act : Act). IsActSoFar here front e act) (sym is) (record {
+          legal = subst (λ (act : Act O). IsActSoFar here front e act) (sym is) (record {
             own_kind = takes;
             replied = answered ∙ ap (λ state. Replied (here.reply state op)) (sym s.state ∙ ap (λ n. state_in here n front) (sym own));
             incarnation = named_before;
           });
           stands = record {
-            whole = subst (λ (act : Act). F.Whole layout F.procs (act_moves (F.ways_of layout) parts act (reach_of F layout e))) (sym is) steps.whole;
+            whole = subst (λ (act : Act O). F.Whole layout F.procs (act_moves (F.ways_of layout) parts act (reach_of F layout e))) (sym is) steps.whole;
             state = state_after_own here o front e own ∙ (ap (λ state. state_moved here state e.act e.answer) s.state
                 ∙ (ap (λ act. state_moved here ((F.ways_of layout).combine parts) act e.answer) is
                 ∙ (sym steps.moved ∙ ap (λ act. (F.ways_of layout).combine (act_moves (F.ways_of layout) parts act (reach_of F layout e))) (sym is))));
@@ -89,7 +87,7 @@ module _ {S L P : Type 0} (F : Layouts S L P) (laws : AreLaws F) (layout : L) (k
           };
         }
 
-    mark_answer : (answer : Answer) → e.answer ≡ answer → IsMark (F.tag_of layout) number answer → IsAnswerSoFar here front e answer × (is_carried_out e.answer ≡ false)
+    mark_answer : (answer : Answer R) → e.answer ≡ answer → IsMark (F.tag_of layout) number answer → IsAnswerSoFar here front e answer × (is_carried_out e.answer ≡ false)
     mark_answer (Replied reply) is mark = absurd mark
     mark_answer (Swapped other) is mark = absurd mark
     mark_answer (Busy other) is mark = absurd mark
@@ -112,30 +110,30 @@ module _ {S L P : Type 0} (F : Layouts S L P) (laws : AreLaws F) (layout : L) (k
 
     stays : (to : To) → e.act ≡ Swap to → is_carried_out e.answer ≡ false → StandsBehind here (front ++ e ∷ []) ((part_steps F layout).moves parts e)
     stays to is still = record {
-      whole = subst (λ (act : Act). F.Whole layout F.procs (act_moves (F.ways_of layout) parts act (reach_of F layout e))) (sym is) s.whole;
+      whole = subst (λ (act : Act O). F.Whole layout F.procs (act_moves (F.ways_of layout) parts act (reach_of F layout e))) (sym is) s.whole;
       state = state_after_own here o front e own ∙ rw (is, still) s.state;
       counted = number_after_own o front e false own still ∙ omega (arith, s.counted);
     }
 
-    act_step : (act : Act) → e.act ≡ act → IsCallOrMark here (F.tag_of layout) number act e.answer
+    act_step : (act : Act O) → e.act ≡ act → IsCallOrMark here (F.tag_of layout) number act e.answer
         → act_replies (F.ways_of layout) parts act (reach_of F layout e) ≡ reply_in e.answer → StepsOn front e parts
     act_step (Call op) is takes told =
-        call_step op is takes (subst (λ (act : Act). StepsRow here (F.ways_of layout) (F.Whole layout F.procs) parts op (reached (F.ways_of layout) F.procs act (F.proc_of e.caller))) (sym is)
+        call_step op is takes (subst (λ (act : Act O). StepsRow here (F.ways_of layout) (F.Whole layout F.procs) parts op (reached (F.ways_of layout) F.procs act (F.proc_of e.caller))) (sym is)
         (laws.steps layout (F.proc_of e.caller) parts op known (laws.on_one e.caller) takes s.whole)) told
     act_step (Swap to) is mark told =
         let told = mark_answer e.answer refl mark in
-        record { legal = subst (λ (act : Act). IsActSoFar here front e act) (sym is) told.0; stands = stays to is told.1 }
+        record { legal = subst (λ (act : Act O). IsActSoFar here front e act) (sym is) told.0; stands = stays to is told.1 }
 
-  pub entry_step : (front : List Entry) (e : Entry) (parts : List P) → StandsBehind here front parts → IsEntryOf F layout o number e
+  pub entry_step : (front : List (Entry O R)) (e : Entry O R) (parts : List P) → StandsBehind here front parts → IsEntryOf F layout o number e
       → (part_steps F layout).answers parts e ≡ (part_steps F layout).tells e → StepsOn front e parts
   entry_step front e parts s own told = act_step front e parts s own.object own.incarnation e.act refl own.served told
 
   -- all entries of a row
-  pub record RunsOn (object : OneThread S) (front es : List Entry) (parts : List P) : Type 0 where
+  pub record RunsOn (object : OneThread S O R) (front es : List (Entry O R)) (parts : List P) : Type 0 where
     pub legal : EachBehind (LegalBehind object) front es
     pub stands : StandsBehind object (front ++ es) (replayed (part_steps F layout) parts es)
 
-  pub entries_run : (front es : List Entry) (parts : List P) → StandsBehind here front parts → AllByRecursion (IsEntryOf F layout o number) es → Answered (part_steps F layout) parts es → RunsOn here front es parts
+  pub entries_run : (front es : List (Entry O R)) (parts : List P) → StandsBehind here front parts → AllByRecursion (IsEntryOf F layout o number) es → Answered (part_steps F layout) parts es → RunsOn here front es parts
   entries_run front [] parts s own told = record { legal = tt; stands = rw append-nil s }
   entries_run front (e ∷ es) parts s own told =
       let one = entry_step front e parts s own.0 told.0 in

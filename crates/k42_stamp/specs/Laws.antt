@@ -1,21 +1,20 @@
 -- What is used of the laws of a layout, on the processors of one system.
 use Rattle.std.specs.Prelude.{◌≡◌, ◌==◌, ℕ, ◌<◌, ◌≤◌, false, IsTrue, List}
-use Rattle.k42_kinds.specs.declared.operation.Op.{Op}
 use Rattle.k42_kinds.specs.Histories.{is_call}
 use Rattle.k42_kinds.specs.Rows.{cells_of, IsWithin}
 use Rattle.k42_kinds.specs.LayoutLaws.{StepsRow, StandsFor, Begins, Imports, AdmitsAsSwapped}
 use Rattle.k42_stamp.specs.Layouts.{Layouts}
 
-pub record AreLaws {S L P : Type 0} (F : Layouts S L P) : Type 0 where
+pub record AreLaws {S L P O R : Type 0} (F : Layouts S L P O R) : Type 0 where
   pub some : 0 < F.procs
   pub on_one : (caller : ℕ) → F.proc_of caller < F.procs
   pub steps :
-      (layout : L) (proc : ℕ) (parts : List P) (op : Op) → F.tag_of layout ≤ 2 → proc < F.procs
+      (layout : L) (proc : ℕ) (parts : List P) (op : O) → F.tag_of layout ≤ 2 → proc < F.procs
       → IsTrue ((F.object_of layout).takes op) → F.Whole layout F.procs parts
       → StepsRow (F.object_of layout) (F.ways_of layout) (F.Whole layout F.procs) parts op
       ((F.ways_of layout).reach F.procs op proc)
   pub reaches :
-      (layout : L) (proc : ℕ) (op : Op) → F.tag_of layout ≤ 2 → proc < F.procs
+      (layout : L) (proc : ℕ) (op : O) → F.tag_of layout ≤ 2 → proc < F.procs
       → IsTrue ((F.object_of layout).takes op)
       → IsWithin (cells_of (F.tag_of layout) F.procs) ((F.ways_of layout).reach F.procs op proc)
   pub stands :

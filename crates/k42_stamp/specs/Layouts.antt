@@ -5,23 +5,23 @@ use Rattle.k42_kinds.specs.OneThread.{OneThread}
 use Rattle.k42_kinds.specs.Rows.{Ways}
 
 -- what the layouts tell of themselves, how many processors there are, and on which of them each caller is
-pub record Layouts (S L P : Type 0) : Type 1 where
-  pub object_of : L → OneThread S
+pub record Layouts (S L P O R : Type 0) : Type 1 where
+  pub object_of : L → OneThread S O R
   pub tag_of : L → ℕ
-  pub ways_of : L → Ways S P
+  pub ways_of : L → Ways S P O R
   pub Whole : L → ℕ → List P → Type 0
   pub Serves : L → S → Type 0
   pub admitted : L → S → S
-  pub act_of : L → Act
+  pub act_of : L → Act O
   pub procs : ℕ
   pub proc_of : ℕ → ℕ
 
 -- the same from the ghost members of the trait, each by itself
 abbrev pub layouts_with :
-    {S L P : Type 0}
-    → (L → OneThread S) → (L → ℕ) → (L → Ways S P) → (L → ℕ → List P → Type 0)
-    → (L → S → Type 0) → (L → S → S) → (L → Act) → ℕ → (ℕ → ℕ)
-    → Layouts S L P
+    {S L P O R : Type 0}
+    → (L → OneThread S O R) → (L → ℕ) → (L → Ways S P O R) → (L → ℕ → List P → Type 0)
+    → (L → S → Type 0) → (L → S → S) → (L → Act O) → ℕ → (ℕ → ℕ)
+    → Layouts S L P O R
 layouts_with object_of tag_of ways_of Whole Serves admitted act_of procs proc_of = record {
   object_of = object_of;
   tag_of = tag_of;

@@ -9,10 +9,10 @@ IsBelow [] ns = ⊥
 IsBelow (m ∷ ms) [] = ⊥
 IsBelow (m ∷ ms) (n ∷ ns) = (m < n) ⊎ ((m ≡ n) × IsBelow ms ns)
 
-abbrev pub key_of : Entry → List ℕ
+abbrev pub key_of : {O R : Type 0} → Entry O R → List ℕ
 key_of entry = entry.stamp ∷ entry.object ∷ entry.cell ∷ entry.caller ∷ []
 
-abbrev pub IsBefore : Entry → Entry → Type 0
+abbrev pub IsBefore : {O R : Type 0} → Entry O R → Entry O R → Type 0
 IsBefore one other = IsBelow (key_of one) (key_of other)
 
 -- each element is before all that follow it

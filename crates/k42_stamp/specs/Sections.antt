@@ -5,12 +5,12 @@ use Rattle.k42_stamp.specs.Lists.{InSome}
 
 -- The lists are cut at a stamp: each is a front, with no later stamp, and behind it a rest, which has
 -- later stamps alone.
-pub record AreCutAt (last : ℕ) (lists fronts rests : List (List Entry)) : Type 0 where
+pub record AreCutAt {O R : Type 0} (last : ℕ) (lists fronts rests : List (List (Entry O R))) : Type 0 where
   pub many_fronts : length fronts ≡ length lists
   pub many_rests : length rests ≡ length lists
   pub joined :
-      (place : ℕ) (list front rest : List Entry) → slice_get lists place ≡ Some list
+      (place : ℕ) (list front rest : List (Entry O R)) → slice_get lists place ≡ Some list
       → slice_get fronts place ≡ Some front → slice_get rests place ≡ Some rest
       → list ≡ front ++ rest
-  pub early : (entry : Entry) → InSome fronts entry → entry.stamp ≤ last
-  pub late : (entry : Entry) → InSome rests entry → last < entry.stamp
+  pub early : (entry : Entry O R) → InSome fronts entry → entry.stamp ≤ last
+  pub late : (entry : Entry O R) → InSome rests entry → last < entry.stamp

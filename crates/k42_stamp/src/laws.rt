@@ -19,8 +19,10 @@ pub fn draw_keeps<L: Layout>(procs: u32)
     requires { 0 < procs }
     ensures { (proc_of : ℕ → ℕ) → ((caller : ℕ) → proc_of caller < procs) →
         let F = layouts_with L.object L.tag_of L.ways L.whole L.serves L.admitted L.act_of procs proc_of in
-        (declared : L) (o : ℕ) (histories : ℕ → ℕ → List Entry) (chain : Chain L L.Part)
-        (entry : Entry) → Fits F declared o histories chain → IsNext F o histories chain entry →
+        (declared : L) (o : ℕ) (histories : ℕ → ℕ → List (Entry L.Op L.Reply))
+        (chain : Chain L L.Part L.Op L.Reply)
+        (entry : Entry L.Op L.Reply) → Fits F declared o histories chain →
+        IsNext F o histories chain entry →
         Draws F declared o histories chain entry }
 {}
 
@@ -30,28 +32,29 @@ pub fn hand_begins<L: Layout>(procs: u32)
     requires { 0 < procs }
     ensures { (proc_of : ℕ → ℕ) → ((caller : ℕ) → proc_of caller < procs) →
         let F = layouts_with L.object L.tag_of L.ways L.whole L.serves L.admitted L.act_of procs proc_of in
-        (declared : L) (o : ℕ) (histories : ℕ → ℕ → List Entry) (chain : Chain L L.Part) (layout : L)
-        (entry : Entry) → Fits F declared o histories chain →
+        (declared : L) (o : ℕ) (histories : ℕ → ℕ → List (Entry L.Op L.Reply))
+        (chain : Chain L L.Part L.Op L.Reply) (layout : L)
+        (entry : Entry L.Op L.Reply) → Fits F declared o histories chain →
         IsHand F declared o histories chain layout entry →
         Fits F declared o (begun_at entry (suc (length chain.past)) histories)
         (handed F chain layout entry) }
 {}
 
 /// Callers' lists always merge to one list in order, those too that no code holds.
-pub fn lists_have_a_merge()
-    ensures { (lists : List (List Entry)) → AreLists lists →
-        (merged : List Entry) × IsMerged lists merged }
+pub fn lists_have_a_merge<O, R>()
+    ensures { (lists : List (List (Entry O R))) → AreLists lists →
+        (merged : List (Entry O R)) × IsMerged lists merged }
 {}
 
 /// Two merges of the same lists, numbered from the same number, are one.
-pub fn a_merge_is_one()
-    ensures { (first : ℕ) (lists : List (List Entry)) (one other : List Entry) →
+pub fn a_merge_is_one<O, R>()
+    ensures { (first : ℕ) (lists : List (List (Entry O R))) (one other : List (Entry O R)) →
         IsMergedFrom first lists one → IsMergedFrom first lists other → one ≡ other }
 {}
 
 /// Lists that are cut at a stamp are merged in two sections, of which the second is numbered on.
-pub fn sections_merge_to_the_whole()
-    ensures { (last : ℕ) (lists fronts rests : List (List Entry)) (before section : List Entry) →
+pub fn sections_merge_to_the_whole<O, R>()
+    ensures { (last : ℕ) (lists fronts rests : List (List (Entry O R))) (before section : List (Entry O R)) →
         AreCutAt last lists fronts rests → IsMerged fronts before →
         IsMergedFrom (length before + 1) rests section → IsMerged lists (before ++ section) }
 {}
@@ -63,8 +66,10 @@ pub fn merged_is_legal<L: Layout>(procs: u32)
     requires { 0 < procs }
     ensures { (proc_of : ℕ → ℕ) → ((caller : ℕ) → proc_of caller < procs) →
         let F = layouts_with L.object L.tag_of L.ways L.whole L.serves L.admitted L.act_of procs proc_of in
-        (declarations : List L) (histories : ℕ → ℕ → ℕ → List Entry) (chains : List (Chain L L.Part))
-        (lists : List (List Entry)) (merged : List Entry) (passes : Act → Answer → Bool) →
+        (declarations : List L) (histories : ℕ → ℕ → ℕ → List (Entry L.Op L.Reply))
+        (chains : List (Chain L L.Part L.Op L.Reply))
+        (lists : List (List (Entry L.Op L.Reply))) (merged : List (Entry L.Op L.Reply))
+        (passes : Act L.Op → Answer L.Reply → Bool) →
         LetsSteps passes → AllFit F declarations histories chains →
         AreThose procs passes lists histories chains → IsMerged lists merged →
         AreLegal F declarations passes merged }

@@ -10,7 +10,7 @@ use std::alloc::Global;
 use std::marker::Model;
 
 /// Gives each entry its place as stamp, counted from the first.
-fn number(first: u64, entries: &mut Vec<Entry>)
+fn number<O: Copy + Drop, R: Copy + Drop>(first: u64, entries: &mut Vec<Entry<O, R>>)
     requires { first + length entries.old.items ≤ 2 ^ 64 }
     ensures { entries.new.items ≡ numbered_from first entries.old.items }
 {
@@ -21,12 +21,12 @@ fn number(first: u64, entries: &mut Vec<Entry>)
 
 /// Room in which lists are merged.
 #[derive(Drop)]
-pub struct Room {
-    rests: Vec<Rest>,
-    entries: Vec<Entry>,
+pub struct Room<O, R> {
+    rests: Vec<Rest<O, R>>,
+    entries: Vec<Entry<O, R>>,
 }
 
-impl Model for Room {
+impl<O, R> Model for Room<O, R> {
     ghost use Rattle.std.specs.Prelude.{◌≡◌, [], vec_capacity};
     ghost use Rattle.k42_stamp.specs.Merging.{RoomSeen};
 
@@ -37,9 +37,9 @@ impl Model for Room {
     ghost invariant = { λ r. (r.rests.items ≡ []) × (r.entries.items ≡ []) };
 }
 
-impl Room {
+impl<O: Copy + Drop, R: Copy + Drop> Room<O, R> {
     /// Room for so many lists, which have so many entries in all.
-    pub fn new(alloc: Global, lists: usize, entries: usize) -> Result<Room, Memory>
+    pub fn new(alloc: Global, lists: usize, entries: usize) -> Result<Room<O, R>, Memory>
         ensures { IfOk result (λ room. room ≡ record { lists = lists; entries = entries }) }
     {
         Ok(Room {
@@ -50,7 +50,10 @@ impl Room {
 }
 
 /// Moves the next entry behind the others, and answers whether there was one.
-fn move_next(rests: &mut Vec<Rest>, entries: &mut Vec<Entry>) -> bool
+fn move_next<O: Copy + Drop, R: Copy + Drop>(
+    rests: &mut Vec<Rest<O, R>>,
+    entries: &mut Vec<Entry<O, R>>,
+) -> bool
     requires room { vec_len entries.old + entries_in rests.old.items ≤ vec_capacity entries.old }
     ensures capacity { vec_capacity entries.new ≡ vec_capacity entries.old }
     ensures room { vec_len entries.new + entries_in rests.new.items ≡ vec_len entries.old + entries_in rests.old.items }
@@ -66,7 +69,10 @@ fn move_next(rests: &mut Vec<Rest>, entries: &mut Vec<Entry>) -> bool
 }
 
 /// Moves all entries, each time the next one.
-fn move_all(rests: &mut Vec<Rest>, entries: &mut Vec<Entry>)
+fn move_all<O: Copy + Drop, R: Copy + Drop>(
+    rests: &mut Vec<Rest<O, R>>,
+    entries: &mut Vec<Entry<O, R>>,
+)
     requires lists { AreLists rests.old.items }
     requires room { entries_in rests.old.items ≤ vec_capacity entries.old }
     requires none { entries.old.items ≡ [] }
@@ -77,7 +83,7 @@ fn move_all(rests: &mut Vec<Rest>, entries: &mut Vec<Entry>)
 }
 
 /// Whether no list has entries.
-fn are_empty(lists: &[Vec<Entry>]) -> bool
+fn are_empty<O: Copy + Drop, R: Copy + Drop>(lists: &[Vec<Entry<O, R>>]) -> bool
     ensures { result ≡ true → AreEmpty (map vec_items lists.now) }
 {
     let Some((list, others)) = lists.split_first() else {
@@ -87,7 +93,9 @@ fn are_empty(lists: &[Vec<Entry>]) -> bool
 }
 
 /// The place of the list that alone has entries.
-pub(crate) fn only_place(lists: &[Vec<Entry>]) -> Option<usize>
+pub(crate) fn only_place<O: Copy + Drop, R: Copy + Drop>(
+    lists: &[Vec<Entry<O, R>>],
+) -> Option<usize>
     ensures { IfSome result (λ place. IsAlone (map vec_items lists.now) place) }
 {
     let (list, others) = lists.split_first()?;
@@ -101,7 +109,10 @@ pub(crate) fn only_place(lists: &[Vec<Entry>]) -> Option<usize>
 }
 
 /// What is left of the lists before the first entry has moved.
-fn rests_of(mut rests: Vec<Rest>, lists: Vec<Vec<Entry>>) -> Vec<Rest>
+fn rests_of<O: Copy + Drop, R: Copy + Drop>(
+    mut rests: Vec<Rest<O, R>>,
+    lists: Vec<Vec<Entry<O, R>>>,
+) -> Vec<Rest<O, R>>
     requires none { rests.items ≡ [] }
     requires room { length lists.items ≤ vec_capacity rests }
     ensures { result.items ≡ map vec_items lists.items }
@@ -114,7 +125,11 @@ fn rests_of(mut rests: Vec<Rest>, lists: Vec<Vec<Entry>>) -> Vec<Rest>
 
 /// The list at that place, which alone has entries, numbered anew from the first number. It is not
 /// copied.
-pub fn take_alone_from(first: u64, place: usize, mut lists: Vec<Vec<Entry>>) -> Vec<Entry>
+pub fn take_alone_from<O: Copy + Drop, R: Copy + Drop>(
+    first: u64,
+    place: usize,
+    mut lists: Vec<Vec<Entry<O, R>>>,
+) -> Vec<Entry<O, R>>
     requires lists { AreLists (map vec_items lists.items) }
     requires alone { IsAlone (map vec_items lists.items) place }
     requires fits { first + entries_in (map vec_items lists.items) ≤ 2 ^ 64 }
@@ -126,7 +141,10 @@ pub fn take_alone_from(first: u64, place: usize, mut lists: Vec<Vec<Entry>>) -> 
 }
 
 /// The same from 1.
-pub fn take_alone(place: usize, mut lists: Vec<Vec<Entry>>) -> Vec<Entry>
+pub fn take_alone<O: Copy + Drop, R: Copy + Drop>(
+    place: usize,
+    mut lists: Vec<Vec<Entry<O, R>>>,
+) -> Vec<Entry<O, R>>
     requires lists { AreLists (map vec_items lists.items) }
     requires alone { IsAlone (map vec_items lists.items) place }
     ensures { IsMerged (map vec_items lists.items) result.items }
@@ -136,7 +154,11 @@ pub fn take_alone(place: usize, mut lists: Vec<Vec<Entry>>) -> Vec<Entry>
 
 /// The entries of all lists in the order of stamp, object, cell and caller, numbered anew from the
 /// first number.
-pub fn merge_from(first: u64, room: Room, lists: Vec<Vec<Entry>>) -> Vec<Entry>
+pub fn merge_from<O: Copy + Drop, R: Copy + Drop>(
+    first: u64,
+    room: Room<O, R>,
+    lists: Vec<Vec<Entry<O, R>>>,
+) -> Vec<Entry<O, R>>
     requires lists { AreLists (map vec_items lists.items) }
     requires room { HasRoom room (map vec_items lists.items) }
     requires fits { first + entries_in (map vec_items lists.items) ≤ 2 ^ 64 }
@@ -150,7 +172,10 @@ pub fn merge_from(first: u64, room: Room, lists: Vec<Vec<Entry>>) -> Vec<Entry>
 }
 
 /// The same from 1.
-pub fn merge_into(room: Room, lists: Vec<Vec<Entry>>) -> Vec<Entry>
+pub fn merge_into<O: Copy + Drop, R: Copy + Drop>(
+    room: Room<O, R>,
+    lists: Vec<Vec<Entry<O, R>>>,
+) -> Vec<Entry<O, R>>
     requires lists { AreLists (map vec_items lists.items) }
     requires room { HasRoom room (map vec_items lists.items) }
     ensures { IsMerged (map vec_items lists.items) result.items }
@@ -159,7 +184,7 @@ pub fn merge_into(room: Room, lists: Vec<Vec<Entry>>) -> Vec<Entry>
 }
 
 /// How many entries the lists have.
-pub(crate) fn total_of(lists: &[Vec<Entry>]) -> Option<usize>
+pub(crate) fn total_of<O: Copy + Drop, R: Copy + Drop>(lists: &[Vec<Entry<O, R>>]) -> Option<usize>
     ensures { IfSome result (λ total. total ≡ entries_in (map vec_items lists.now)) }
 {
     let Some((list, others)) = lists.split_first() else {
@@ -169,7 +194,10 @@ pub(crate) fn total_of(lists: &[Vec<Entry>]) -> Option<usize>
 }
 
 /// The same, with room of its own, which it needs only where several lists have entries.
-pub fn merge(alloc: Global, lists: Vec<Vec<Entry>>) -> Result<Vec<Entry>, Memory>
+pub fn merge<O: Copy + Drop, R: Copy + Drop>(
+    alloc: Global,
+    lists: Vec<Vec<Entry<O, R>>>,
+) -> Result<Vec<Entry<O, R>>, Memory>
     requires { AreLists (map vec_items lists.items) }
     ensures { IfOk result (λ merged. IsMerged (map vec_items lists.items) merged.items) }
 {

@@ -9,22 +9,22 @@ use std::marker::Model;
 
 /// What is left of a list.
 #[derive(Drop)]
-pub(crate) struct Rest {
-    entries: VecDeque<Entry>,
+pub(crate) struct Rest<O, R> {
+    entries: VecDeque<Entry<O, R>>,
 }
 
-impl Model for Rest {
+impl<O, R> Model for Rest<O, R> {
     ghost use Rattle.std.specs.Prelude.{List};
     ghost use Rattle.k42_kinds.specs.declared.entry.Entry.{Entry};
 
-    ghost Value = { List Entry };
+    ghost Value = { List (Entry O R) };
 
     ghost view = { λ r. r.entries.items };
 }
 
-impl Rest {
+impl<O: Copy + Drop, R: Copy + Drop> Rest<O, R> {
     /// The whole list.
-    pub(crate) fn of(list: Vec<Entry>) -> Rest
+    pub(crate) fn of(list: Vec<Entry<O, R>>) -> Rest<O, R>
         ensures { result ≡ list.items }
     {
         Rest {
@@ -32,7 +32,7 @@ impl Rest {
         }
     }
 
-    fn first(&self) -> Option<&Entry>
+    fn first(&self) -> Option<&Entry<O, R>>
         ensures none { result ≡ None → self.now ≡ [] }
         ensures some { IfSome result (λ entry. slice_get self.now 0 ≡ Some entry.now) }
     {
@@ -40,7 +40,7 @@ impl Rest {
     }
 
     /// Takes the first entry out.
-    pub(crate) fn pop(&mut self) -> Entry
+    pub(crate) fn pop(&mut self) -> Entry<O, R>
         requires { 0 < length self.old }
         ensures { self.old ≡ result ∷ self.new }
     {
@@ -52,7 +52,7 @@ impl Rest {
 }
 
 /// Whether the entry stands before the other, by stamp, object, cell and caller.
-fn is_before(one: &Entry, other: &Entry) -> bool
+fn is_before<O: Copy + Drop, R: Copy + Drop>(one: &Entry<O, R>, other: &Entry<O, R>) -> bool
     ensures { (result ≡ true) ↔ IsBefore one.now other.now }
 {
     if one.stamp != other.stamp {
@@ -68,7 +68,9 @@ fn is_before(one: &Entry, other: &Entry) -> bool
 }
 
 /// The next entry, and the place of its list.
-pub(crate) fn next_entry(rests: &[Rest]) -> Option<(usize, &Entry)>
+pub(crate) fn next_entry<O: Copy + Drop, R: Copy + Drop>(
+    rests: &[Rest<O, R>],
+) -> Option<(usize, &Entry<O, R>)>
     ensures none { result ≡ None → AreEmpty rests.now }
     ensures next { IfSome result (λ found. IsNext rests.now found.0 found.1.now) }
 {

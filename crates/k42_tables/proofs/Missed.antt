@@ -30,7 +30,7 @@ use Rattle.k42_tables.specs.declared.answers.Filled.TheVariants.{Installed, Else
 use Rattle.k42_tables.proofs.ServedCells.{ArePresent, AreOpen, direct_served}
 
 -- a lock that was taken and left again
-locked_back : (x : Caller) (n : ℕ) → holds_none x.held ≡ true → caller_unlocked n (caller_locked n x) ≡ x
+locked_back : {O R : Type 0} (x : Caller O R) (n : ℕ) → holds_none x.held ≡ true → caller_unlocked n (caller_locked n x) ≡ x
 locked_back x n none = go x.held refl none where
   go : (held : List ℕ) → x.held ≡ held → holds_none held ≡ true → caller_unlocked n (caller_locked n x) ≡ x
   go [] is free =
@@ -40,20 +40,20 @@ locked_back x n none = go x.held refl none where
   go (m ∷ held) is free = absurd (cc)
 
 -- a try that has left its cell again: of which row and at which place the cell is, and what the pass knows
-pub record IsTried {P : Type 0} (o root row place : ℕ) (v x : PassView P) : Type 0 where
+pub record IsTried {P O R : Type 0} (o root row place : ℕ) (v x : PassView P O R) : Type 0 where
   pub facts : RootFound v root
   pub row_is : row ≡ row_of v.visitor.place
   pub place_is : place ≡ place_named (rooted_view root v)
   pub view : x ≡ tried_view o root true v
 
-pub tried_at : {P : Type 0} (o root row tag home place n holder : ℕ) (v u w x : PassView P) → RootFound v root
+pub tried_at : {P O R : Type 0} (o root row tag home place n holder : ℕ) (v u w x : PassView P O R) → RootFound v root
     → u ≡ took steps.LoadRoot (object_word o) root (rooted_view root v)
     → row ≡ incarnation_in root → tag ≡ layout_in root → home ≡ u.turn.proc → place ≡ root_of tag home → n ≡ cell_of o row place
     → w ≡ took steps.Lock (lock_word n) holder (locked_view n holder u) → holder ≡ 0 → holds_none v.taker.held ≡ true → x ≡ handled_view n true w
     → IsTried o root row place v x
-tried_at o root row tag home place n holder v u w x facts rooted row_is tag_is home_is place_is cell_is locked none free handled =
+tried_at {O} {R} o root row tag home place n holder v u w x facts rooted row_is tag_is home_is place_is cell_is locked none free handled =
     let row_there : row ≡ row_of v.visitor.place = row_is ∙ facts.row in
-    let home_there : home ≡ v.turn.proc = home_is ∙ ap (λ (z : PassView _). z.turn.proc) rooted in
+    let home_there : home ≡ v.turn.proc = home_is ∙ ap (λ (z : PassView _ O R). z.turn.proc) rooted in
     let named : place ≡ place_named (rooted_view root v) = place_is ∙ (λ k. root_of (tag_is k) (home_there k)) in
     let cell : n ≡ tried_cell o root v = cell_is ∙ (λ k. cell_of o (row_there k) (named k)) in
     record {
@@ -69,7 +69,7 @@ tried_at o root row tag home place n holder v u w x facts rooted row_is tag_is h
           });
     }
 
-module _ {S L P : Type 0} (F : Layouts S L P) (declared : List L) (id o root row place : ℕ) (v x w : PassView P) (tried : IsTried o root row place v x) (found : ℕ) where
+module _ {S L P O R : Type 0} (F : Layouts S L P O R) (declared : List L) (id o root row place : ℕ) (v x w : PassView P O R) (tried : IsTried o root row place v x) (found : ℕ) where
   pub has_filled : (seat : ℕ) → seat ≡ id → (answer : Filled) → Takes F declared (protocol.install o place) seat x found w → answer ≡ filled_in row place found
       → HasFilled F declared id o v w answer
   has_filled seat same answer takes told = record {
@@ -77,7 +77,7 @@ module _ {S L P : Type 0} (F : Layouts S L P) (declared : List L) (id o root row
     rooted = tried.facts;
     found = found;
     installed =
-        subst (λ (z : ℕ × (ℕ × PassView P)). Takes F declared (protocol.install o z.0) z.1.0 z.1.1 found w)
+        subst (λ (z : ℕ × (ℕ × PassView P O R)). Takes F declared (protocol.install o z.0) z.1.0 z.1.1 found w)
         (λ k. (tried.place_is k, (same k, tried.view k))) takes;
     answered = told ∙ (λ k. filled_in (tried.row_is k) (tried.place_is k) found);
   }
@@ -85,11 +85,11 @@ module _ {S L P : Type 0} (F : Layouts S L P) (declared : List L) (id o root row
   pub installed_served : ArePresent F declared → AreOpen F declared → v.turn.proc < F.procs → w ≡ took steps.Install (local_word x.turn.proc o) found (installed_view o found x)
       → IfInstalled (filled_in row place found) (λ cell. Always F declared id w (IsServed o cell w))
   installed_served present opened home knows = go (eqb found (local_value (empty_entry row))) refl where
-    u : PassView P
+    u : PassView P O R
     u = tried_view o root true v
 
     is : w ≡ took steps.Install (local_word u.turn.proc o) found (installed_view o found u)
-    is = knows ∙ ap (λ (z : PassView P). took steps.Install (local_word z.turn.proc o) found (installed_view o found z)) tried.view
+    is = knows ∙ ap (λ (z : PassView P O R). took steps.Install (local_word z.turn.proc o) found (installed_view o found z)) tried.view
 
     go : (b : Bool) → eqb found (local_value (empty_entry row)) ≡ b → IfInstalled (cond b (Installed place) (Elsewhere found)) (λ cell. Always F declared id w (IsServed o cell w))
     go false e = tt
@@ -98,7 +98,7 @@ module _ {S L P : Type 0} (F : Layouts S L P) (declared : List L) (id o root row
         let direct : (installed_view o found u).visitor.place ≡ Direct o (row_of u.visitor.place) = rw here refl in
         let layout : (installed_view o found u).layout ≡ Some (layout_in root) = rw here refl in
         let same_home : (installed_view o found u).turn.proc ≡ u.turn.proc = rw here refl in
-        let stays : w.turn.proc ≡ u.turn.proc = ap (λ (z : PassView P). z.turn.proc) is ∙ same_home in
+        let stays : w.turn.proc ≡ u.turn.proc = ap (λ (z : PassView P O R). z.turn.proc) is ∙ same_home in
         direct_served F declared present opened id o (row_of u.visitor.place) (layout_in root) place w (subst (λ p. p < F.procs) (sym stays) home)
-        (ap (λ (z : PassView P). z.visitor.place) is ∙ direct) (ap (λ (z : PassView P). z.layout) is ∙ layout)
+        (ap (λ (z : PassView P O R). z.visitor.place) is ∙ direct) (ap (λ (z : PassView P O R). z.layout) is ∙ layout)
         (tried.place_is ∙ (λ k. root_of (layout_in root) (sym stays k)))

@@ -21,21 +21,21 @@ use Rattle.k42_tables.specs.Filling.{IsOfItsRow, handled_view}
 
 -- notes of other cells stay
 
-rest_without : {P : Type 0} (n : ℕ) (note : Note P) (notes : List (Note P)) (b : Bool) → eqb note.cell n ≡ b → b ≡ false
+rest_without : {P O R : Type 0} (n : ℕ) (note : Note P O R) (notes : List (Note P O R)) (b : Bool) → eqb note.cell n ≡ b → b ≡ false
     → without n (note ∷ notes) ≡ note ∷ without n notes
 rest_without n note notes b is apart = let other = is ∙ apart in rw other refl
 
-pub without_none : {P : Type 0} (n : ℕ) (notes : List (Note P)) → names (cells_noted notes) n ≡ false → without n notes ≡ notes
+pub without_none : {P O R : Type 0} (n : ℕ) (notes : List (Note P O R)) → names (cells_noted notes) n ≡ false → without n notes ≡ notes
 without_none n [] none = refl
 without_none n (note ∷ notes) none = go (eqb note.cell n) (names (cells_noted notes) n) refl none (without_none n notes) where
   go : (b d : Bool) → eqb note.cell n ≡ b → b || d ≡ false → (d ≡ false → without n notes ≡ notes) → without n (note ∷ notes) ≡ note ∷ notes
   go true d is none' rest = absurd (cc)
   go false d is none' rest = rest_without n note notes false is refl ∙ ap (λ more. note ∷ more) (rest none')
 
-pub without_first : {P : Type 0} (n : ℕ) (note : Note P) (notes : List (Note P)) → note.cell ≡ n → without n (note ∷ notes) ≡ without n notes
+pub without_first : {P O R : Type 0} (n : ℕ) (note : Note P O R) (notes : List (Note P O R)) → note.cell ≡ n → without n (note ∷ notes) ≡ without n notes
 without_first n note notes same = let is = eq-eqb note.cell n same in rw is refl
 
-pub none_without : {P : Type 0} (n : ℕ) (notes : List (Note P)) → names (cells_noted (without n notes)) n ≡ false
+pub none_without : {P O R : Type 0} (n : ℕ) (notes : List (Note P O R)) → names (cells_noted (without n notes)) n ≡ false
 none_without n [] = refl
 none_without n (note ∷ notes) = go (eqb note.cell n) refl (none_without n notes) where
   go : (b : Bool) → eqb note.cell n ≡ b → names (cells_noted (without n notes)) n ≡ false
@@ -45,16 +45,16 @@ none_without n (note ∷ notes) = go (eqb note.cell n) refl (none_without n note
 
 -- the pass that has taken the cell, and the one that has put it back then, with a part or without
 
-abbrev pub out_view : {P : Type 0} → ℕ → Content P → PassView P → PassView P
+abbrev pub out_view : {P O R : Type 0} → ℕ → Content P O R → PassView P O R → PassView P O R
 out_view n content v = gave_back (lock_word n) (took steps.Lift (lock_word n) 0 (lifted_view content v))
 
-abbrev pub back_view : {P : Type 0} → ℕ → Content P → PassView P → PassView P
+abbrev pub back_view : {P O R : Type 0} → ℕ → Content P O R → PassView P O R → PassView P O R
 back_view n content u = logs (put_at (lock_word n) (is_some content.part)) (put_view n (took steps.Reach (lock_word n) 0 (reaching_view n u)))
 
-abbrev pub left_view : {P : Type 0} → ℕ → PassView P → PassView P
+abbrev pub left_view : {P O R : Type 0} → ℕ → PassView P O R → PassView P O R
 left_view n u = took steps.Unlock (lock_word n) 0 (unlocked_view n u)
 
-module _ {P : Type 0} (n : ℕ) (content filled : Content P) (v : PassView P) (number : content.number ≡ n) (is : HoldsHome n v) where
+module _ {P O R : Type 0} (n : ℕ) (content filled : Content P O R) (v : PassView P O R) (number : content.number ≡ n) (is : HoldsHome n v) where
   pub holds_back : HoldsHome n (back_view n filled (out_view n content v))
   holds_back = record { cell = is.cell; held = is.held; home = none_without n (noted content ∷ v.notes) }
 
@@ -65,9 +65,9 @@ module _ {P : Type 0} (n : ℕ) (content filled : Content P) (v : PassView P) (n
       let notes = without_first n (noted content) v.notes number ∙ without_none n v.notes is.home in
       λ k. record (unlocked_view n v) { notes = notes k; out = sym settled k; log = steps_through n (has k) ++ v.log }
 
-module _ {S L P : Type 0} (F : Layouts S L P) (laws : AreLaws F) (one_way : AreOneWay F) (declared : List L) (id n place : ℕ) (layout : L) (v : PassView P)
-    (row : IsOfItsRow F declared n place layout v) (content : Content P) (number : content.number ≡ n) where
-  abbrev taken : PassView P
+module _ {S L P O R : Type 0} (F : Layouts S L P O R) (laws : AreLaws F) (one_way : AreOneWay F) (declared : List L) (id n place : ℕ) (layout : L) (v : PassView P O R)
+    (row : IsOfItsRow F declared n place layout v) (content : Content P O R) (number : content.number ≡ n) where
+  abbrev taken : PassView P O R
   taken = out_view n content v
 
   kept_part : (own : Option P) → own ≡ content.part → Always F declared id taken (λ s. IsPart F declared s n own)
@@ -90,12 +90,12 @@ module _ {S L P : Type 0} (F : Layouts S L P) (laws : AreLaws F) (one_way : AreO
     go (Some part) has filled' = kept_part own (filled' ∙ sym has)
     go None none filled' = subst (λ part. Always F declared id taken (λ s. IsPart F declared s n part)) (sym filled') (empty_part none)
 
-  pub may_put_filled : (filled : Content P) → filled ≡ record content { part = filled.part } → n < CELLS
+  pub may_put_filled : (filled : Content P O R) → filled ≡ record content { part = filled.part } → n < CELLS
       → (filled.part ≡ content.part) ⊎ (filled.part ≡ Some (unwrap_or content.part ((F.ways_of layout).empty F.procs place)))
       → MayPut F declared id n filled taken
   may_put_filled filled same few due =
       let agrees : AgreesWithNotes (taken_view content v).notes content = taken_agrees content v in
-      may_put F declared id n taken filled (ap (λ (c : Content P). c.number) same ∙ number) few
+      may_put F declared id n taken filled (ap (λ (c : Content P O R). c.number) same ∙ number) few
       (subst (AgreesWithNotes taken.notes) (sym same) (record { noted = agrees.noted; history = agrees.history; closed = agrees.closed }))
       (due_part filled.part due)
 

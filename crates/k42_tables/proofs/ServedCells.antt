@@ -34,9 +34,9 @@ root_there layout proc procs lt = go (eqb layout 1) where
   go true = lt
   go false = omega (arith, lt)
 
-module _ {S L P : Type 0} (F : Layouts S L P) (declared : List L) where
+module _ {S L P O R : Type 0} (F : Layouts S L P O R) (declared : List L) where
   -- the cells of a row are open for who is inside
-  pub open_inside : (id o i p : ℕ) (v : PassView P) (table : State (Slot P) (View P)) (r : Rule F declared table) → get_elem? table.views id ≡ some (Crew (v ∷ []))
+  pub open_inside : (id o i p : ℕ) (v : PassView P O R) (table : State (Slot P O R) (View P O R)) (r : Rule F declared table) → get_elem? table.views id ≡ some (Crew (v ∷ []))
       → IsSafe r.state → IsInside v.visitor.place o i → p < F.procs → IsOpenRow r.state o i p
   open_inside id o i p v table r at safe inside lt =
       let knows : KnowsPass F.tag_of r.state r.beside id v = known F declared table r id v at in
@@ -46,15 +46,15 @@ module _ {S L P : Type 0} (F : Layouts S L P) (declared : List L) where
   -- what the laws of the table tell of who is inside a row
   abbrev pub ArePresent : Type 0
   ArePresent =
-      (table : State (Slot P) (View P)) (r : Rule F declared table) (id : ℕ) (v : PassView P)
+      (table : State (Slot P O R) (View P O R)) (r : Rule F declared table) (id : ℕ) (v : PassView P O R)
       → get_elem? table.views id ≡ some (Crew (v ∷ [])) → is_served v.visitor.place ≡ true → IsPresent v r.state
 
   abbrev pub AreOpen : Type 0
   AreOpen =
-      (id o i p : ℕ) (v : PassView P) → IsInside v.visitor.place o i → p < F.procs
+      (id o i p : ℕ) (v : PassView P O R) → IsInside v.visitor.place o i → p < F.procs
       → Always F declared id v (λ s. IsOpenRow s o i p)
 
-  pub direct_served : ArePresent → AreOpen → (id o i l cell : ℕ) (w : PassView P) → w.turn.proc < F.procs → w.visitor.place ≡ Direct o i → w.layout ≡ Some l
+  pub direct_served : ArePresent → AreOpen → (id o i l cell : ℕ) (w : PassView P O R) → w.turn.proc < F.procs → w.visitor.place ≡ Direct o i → w.layout ≡ Some l
       → cell ≡ root_of l w.turn.proc → Always F declared id w (IsServed o cell w)
   direct_served present opened id o i l cell w home place learned named table r at =
       let is = present table r id w at (ap is_served place) in
@@ -69,7 +69,7 @@ module _ {S L P : Type 0} (F : Layouts S L P) (declared : List L) where
         is_open = subst (λ k. IsOpenRow r.state o k cell) row (opened id o i cell w inside there table r at);
       }
 
-  pub look_up_served : ArePresent → AreOpen → (id o found word : ℕ) (v w : PassView P) → v.turn.proc < F.procs → w ≡ took steps.LookUp word found (looked_up_view o found v) → EntryFound v found
+  pub look_up_served : ArePresent → AreOpen → (id o found word : ℕ) (v w : PassView P O R) → v.turn.proc < F.procs → w ≡ took steps.LookUp word found (looked_up_view o found v) → EntryFound v found
       → IfDirect (entered_by (entry_in found)) (λ cell. Always F declared id w (IsServed o cell w))
   look_up_served present opened id o found word v w home is facts = go (eqb (entry_in found).tag 0) (eqb (entry_in found).tag 1) refl refl where
     go : (a b : Bool) → eqb (entry_in found).tag 0 ≡ a → eqb (entry_in found).tag 1 ≡ b
@@ -79,7 +79,7 @@ module _ {S L P : Type 0} (F : Layouts S L P) (declared : List L) where
     go false true e f =
         let direct : place_found (entry_in found).tag o (entry_in found).incarnation ≡ Direct o (entry_in found).incarnation = rw (e, f) refl in
         direct_served present opened id o (entry_in found).incarnation (entry_in found).layout (entry_in found).cell w
-        (subst (λ (x : PassView P). x.turn.proc < F.procs) (sym is) home)
-        (ap (λ (x : PassView P). x.visitor.place) is ∙ direct)
-        (ap (λ (x : PassView P). x.layout) is ∙ ap (λ b. cond b (Some (entry_in found).layout) None) f)
-        (facts.cell (eqb-true (entry_in found).tag 1 f) ∙ ap (λ (x : PassView P). root_of (entry_in found).layout x.turn.proc) (sym is))
+        (subst (λ (x : PassView P O R). x.turn.proc < F.procs) (sym is) home)
+        (ap (λ (x : PassView P O R). x.visitor.place) is ∙ direct)
+        (ap (λ (x : PassView P O R). x.layout) is ∙ ap (λ b. cond b (Some (entry_in found).layout) None) f)
+        (facts.cell (eqb-true (entry_in found).tag 1 f) ∙ ap (λ (x : PassView P O R). root_of (entry_in found).layout x.turn.proc) (sym is))

@@ -17,7 +17,7 @@ pub on_err_any : {X E A : Type 0} (r : Result X E) → A → OnErr r A
 on_err_any (Ok x) a = tt
 on_err_any (Err e) a = a
 
-pub same_on : {P : Type 0} {old now new : PassSeen P} → IsSamePass old now → IsSamePass now new → IsSamePass old new
+pub same_on : {P O R : Type 0} {old now new : PassSeen P O R} → IsSamePass old now → IsSamePass now new → IsSamePass old new
 same_on first second = record {
   table = second.table ∙ first.table;
   seat = second.seat ∙ first.seat;
@@ -30,42 +30,42 @@ same_on first second = record {
 }
 
 -- it is the same pass, still in the call that missed, and has only tried since
-pub record IsWaiting {P : Type 0} (o : ℕ) (old now : PassSeen P) : Type 0 where
+pub record IsWaiting {P O R : Type 0} (o : ℕ) (old now : PassSeen P O R) : Type 0 where
   pub same : IsSamePass old now
   pub tries : List (ℕ × ℕ)
   pub there : now.view ≡ record old.view { layout = now.view.layout; log = after_tries o tries old.view }
 
-pub may_still : {P : Type 0} (objects o : ℕ) (old now : PassSeen P) → IsWaiting o old now → MayMiss objects o old.view → MayMiss objects o now.view
-may_still objects o old now waits may = record {
-  missed = ap (λ (x : PassView _). is_missed x.visitor.place o) waits.there ∙ may.missed;
+pub may_still : {P O R : Type 0} (objects o : ℕ) (old now : PassSeen P O R) → IsWaiting o old now → MayMiss objects o old.view → MayMiss objects o now.view
+may_still {O} {R} objects o old now waits may = record {
+  missed = ap (λ (x : PassView _ O R). is_missed x.visitor.place o) waits.there ∙ may.missed;
   there = may.there;
-  free = ap (λ (x : PassView _). holds_none x.taker.held) waits.there ∙ may.free;
+  free = ap (λ (x : PassView _ O R). holds_none x.taker.held) waits.there ∙ may.free;
 }
 
-pub ours_still : {L P : Type 0} (sys : SysSeen L) (o : ℕ) (old now : PassSeen P) → IsWaiting o old now → IsPassOf sys old → IsPassOf sys now
-ours_still sys o old now waits ours = record {
+pub ours_still : {L P O R : Type 0} (sys : SysSeen L) (o : ℕ) (old now : PassSeen P O R) → IsWaiting o old now → IsPassOf sys old → IsPassOf sys now
+ours_still {O} {R} sys o old now waits ours = record {
   table = waits.same.table ∙ ours.table;
-  proc = subst (λ p. p < sys.procs) (sym (ap (λ (x : PassView _). x.turn.proc) waits.there)) ours.proc;
-  waits = ap (λ (x : PassView _). length x.turn.waits) waits.there ∙ ours.waits;
-  objects = ap (λ (x : PassView _). length x.visitor.noted) waits.there ∙ ours.objects;
-  spans = ap (λ (x : PassView _). length x.visitor.freeing) waits.there ∙ ours.spans;
+  proc = subst (λ p. p < sys.procs) (sym (ap (λ (x : PassView _ O R). x.turn.proc) waits.there)) ours.proc;
+  waits = ap (λ (x : PassView _ O R). length x.turn.waits) waits.there ∙ ours.waits;
+  objects = ap (λ (x : PassView _ O R). length x.visitor.noted) waits.there ∙ ours.objects;
+  spans = ap (λ (x : PassView _ O R). length x.visitor.freeing) waits.there ∙ ours.spans;
   queue = waits.same.queue ∙ ours.queue;
   keep = (λ i. (waits.same.keep i).what) ∙ ours.keep;
 }
 
-pub waits_from : {P : Type 0} (o : ℕ) (old : PassSeen P) → IsWaiting o old old
+pub waits_from : {P O R : Type 0} (o : ℕ) (old : PassSeen P O R) → IsWaiting o old old
 waits_from o old = record {
   same = record { table = refl; seat = refl; keep = refl; room = refl; row_room = refl; queue = refl; pushed = refl; popped = refl };
   tries = [];
   there = refl;
 }
 
-module _ {P : Type 0} (o : ℕ) (old now : PassSeen P) (waits : IsWaiting o old now) where
+module _ {P O R : Type 0} (o : ℕ) (old now : PassSeen P O R) (waits : IsWaiting o old now) where
   -- the pass as it was, but for what it has learned and taken since
-  abbrev still : PassView P
+  abbrev still : PassView P O R
   still = record old.view { layout = now.view.layout; log = after_tries o waits.tries old.view }
 
-  pub given_up : (w : PassView P) → HasGivenUp o now.view w → HasGivenUpAtLast o old.view w
+  pub given_up : (w : PassView P O R) → HasGivenUp o now.view w → HasGivenUpAtLast o old.view w
   given_up w is' =
       let is = subst (λ v. HasGivenUp o v w) waits.there is' in
       record {
@@ -73,13 +73,13 @@ module _ {P : Type 0} (o : ℕ) (old now : PassSeen P) (waits : IsWaiting o old 
         up = record { root = is.root; rooted = record { word = record { layout = is.rooted.word.layout; last = is.rooted.word.last }; row = is.rooted.row }; ended = is.ended; knows = is.knows };
       }
 
-  pub filled_at_last : {S L : Type 0} (F : Layouts S L P) (declared : List L) (w : PassView P) (answer : Filled)
+  pub filled_at_last : {S L : Type 0} (F : Layouts S L P O R) (declared : List L) (w : PassView P O R) (answer : Filled)
       (given : tries.Tried) → given ≡ tried.Filled answer → IfFilled given (HasFilled F declared now.seat o now.view w)
       → HasFilledAtLast F declared old.seat o old.view w answer
   filled_at_last F declared w answer given told filled =
       let is' = subst (λ t. IfFilled t (HasFilled F declared now.seat o now.view w)) told filled in
       let is : HasFilled F declared old.seat o still w answer =
-      subst (λ (z : ℕ × PassView P). HasFilled F declared z.0 o z.1 w answer) (λ k. (waits.same.seat k, waits.there k)) is' in
+      subst (λ (z : ℕ × PassView P O R). HasFilled F declared z.0 o z.1 w answer) (λ k. (waits.same.seat k, waits.there k)) is' in
       record {
         tries = waits.tries;
         filled = record {
@@ -91,11 +91,11 @@ module _ {P : Type 0} (o : ℕ) (old now : PassSeen P) (waits : IsWaiting o old 
         };
       }
 
-  pub waits_on : (holder : ℕ) (new : PassSeen P) → IsSamePass now new → IsHeldUp o now.view new.view holder → IsWaiting o old new
+  pub waits_on : (holder : ℕ) (new : PassSeen P O R) → IsSamePass now new → IsHeldUp o now.view new.view holder → IsWaiting o old new
   waits_on holder new same is =
       let tries : List (ℕ × ℕ) = (is.root, holder) ∷ waits.tries in
       let there : new.view ≡ record old.view { layout = Some (layout_in is.root); log = after_tries o tries old.view } =
-      is.knows ∙ ap (λ (x : PassView P). record x { layout = Some (layout_in is.root); log = steps_tried o is.root (holder + 1) x }) waits.there in
+      is.knows ∙ ap (λ (x : PassView P O R). record x { layout = Some (layout_in is.root); log = steps_tried o is.root (holder + 1) x }) waits.there in
       record {
         same = same_on waits.same same;
         tries = tries;

@@ -10,7 +10,7 @@ use Rattle.k42_board.specs.declared.view.PassView.{PassView}
 
 -- the cell is at this place of the row that the pass is inside, and the row has this layout
 pub record IsOfItsRow
-    {S L P : Type 0} (F : Layouts S L P) (declared : List L) (n place : ℕ) (layout : L) (v : PassView P)
+    {S L P O R : Type 0} (F : Layouts S L P O R) (declared : List L) (n place : ℕ) (layout : L) (v : PassView P O R)
     : Type 0 where
   pub object : ℕ
   pub row : ℕ
@@ -25,5 +25,5 @@ pub record IsOfItsRow
   pub few : place < F.procs
 
 -- the pass that has left the cell again, with a part or without
-abbrev pub handled_view : {P : Type 0} → ℕ → Bool → PassView P → PassView P
+abbrev pub handled_view : {P O R : Type 0} → ℕ → Bool → PassView P O R → PassView P O R
 handled_view n full v = record (unlocked_view n v) { log = steps_through n full ++ v.log }

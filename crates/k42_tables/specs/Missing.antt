@@ -20,16 +20,16 @@ use Rattle.k42_tables.specs.declared.answers.Filled.{Filled}
 use Rattle.k42_tables.specs.declared.answers.Filled.TheVariants.{Installed, Elsewhere}
 
 -- its last look-up was of this object and found the entry empty, and it holds no cell
-pub record MayMiss {P : Type 0} (objects o : ℕ) (v : PassView P) : Type 0 where
+pub record MayMiss {P O R : Type 0} (objects o : ℕ) (v : PassView P O R) : Type 0 where
   pub missed : is_missed v.visitor.place o ≡ true
   pub there : o < objects
   pub free : holds_none v.taker.held ≡ true
 
 -- the place that the root of a layout names for its processor, and the cell there, in the row that it missed
-abbrev pub place_named : {P : Type 0} → PassView P → ℕ
+abbrev pub place_named : {P O R : Type 0} → PassView P O R → ℕ
 place_named v = root_of (layout_learned v) v.turn.proc
 
-abbrev pub cell_named : {P : Type 0} → ℕ → PassView P → ℕ
+abbrev pub cell_named : {P O R : Type 0} → ℕ → PassView P O R → ℕ
 cell_named o v = cell_of o (row_of v.visitor.place) (place_named v)
 
 -- what an install answers by the word that it found: it has installed the cell where the entry of this row was empty
@@ -38,15 +38,15 @@ filled_in row place found = if found == local_value (empty_entry row) then Insta
 
 -- A try begins so: the pass has found this word of the object, and with it the layout of the row that it missed; and the
 -- word of the lock of the cell which that layout's root names.
-abbrev pub tried_cell : {P : Type 0} → ℕ → ℕ → PassView P → ℕ
+abbrev pub tried_cell : {P O R : Type 0} → ℕ → ℕ → PassView P O R → ℕ
 tried_cell o root v = cell_named o (rooted_view root v)
 
-abbrev pub steps_tried : {P : Type 0} → ℕ → (root found : ℕ) → PassView P → List Taken
+abbrev pub steps_tried : {P O R : Type 0} → ℕ → (root found : ℕ) → PassView P O R → List Taken
 steps_tried o root found v =
     step_at steps.Lock (lock_word (tried_cell o root v)) found ∷ step_at steps.LoadRoot (object_word o) root ∷ v.log
 
 -- it has learned the layout, has taken the lock, and has left the cell with a part or without
-abbrev pub tried_view : {P : Type 0} → ℕ → ℕ → Bool → PassView P → PassView P
+abbrev pub tried_view : {P O R : Type 0} → ℕ → ℕ → Bool → PassView P O R → PassView P O R
 tried_view o root full v = record v {
   layout = Some (layout_in root);
   log = steps_through (tried_cell o root v) full ++ steps_tried o root 0 v;
@@ -54,19 +54,19 @@ tried_view o root full v = record v {
 
 -- or it has found the lock with another caller, in each of these tries: the word of the object and that caller; the last
 -- comes first
-abbrev pub after_tries : {P : Type 0} → ℕ → List (ℕ × ℕ) → PassView P → List Taken
+abbrev pub after_tries : {P O R : Type 0} → ℕ → List (ℕ × ℕ) → PassView P O R → List Taken
 after_tries o [] v = v.log
 after_tries o ((root, holder) ∷ tries) v =
     step_at steps.Lock (lock_word (tried_cell o root v)) (holder + 1) ∷ step_at steps.LoadRoot (object_word o) root
     ∷ after_tries o tries v
 
-abbrev pub refused_at : {P : Type 0} → ℕ → List (ℕ × ℕ) → PassView P → PassView P
+abbrev pub refused_at : {P O R : Type 0} → ℕ → List (ℕ × ℕ) → PassView P O R → PassView P O R
 refused_at o tries v = with_log (after_tries o tries v) v
 
-module _ {S L P : Type 0} (F : Layouts S L P) (declared : List L) (id : ℕ) where
+module _ {S L P O R : Type 0} (F : Layouts S L P O R) (declared : List L) (id : ℕ) where
   -- The cell has a part then, and the last step installs it. What this found decides the answer: the pass is at its cell
   -- where it found the empty entry, and inside no call where it found another word.
-  pub record HasFilled (o : ℕ) (old new : PassView P) (answer : Filled) : Type 0 where
+  pub record HasFilled (o : ℕ) (old new : PassView P O R) (answer : Filled) : Type 0 where
     pub root : ℕ
     pub rooted : RootFound old root
     pub found : ℕ
@@ -76,12 +76,12 @@ module _ {S L P : Type 0} (F : Layouts S L P) (declared : List L) (id : ℕ) whe
         answer ≡ filled_in (row_of old.visitor.place) (place_named (rooted_view root old)) found
 
   -- the same after tries that found the lock with others
-  pub record HasFilledAtLast (o : ℕ) (old new : PassView P) (answer : Filled) : Type 0 where
+  pub record HasFilledAtLast (o : ℕ) (old new : PassView P O R) (answer : Filled) : Type 0 where
     pub tries : List (ℕ × ℕ)
     pub filled : HasFilled o (refused_at o tries old) new answer
 
 -- it has found the lock with this caller
-pub record IsHeldUp {P : Type 0} (o : ℕ) (old new : PassView P) (holder : ℕ) : Type 0 where
+pub record IsHeldUp {P O R : Type 0} (o : ℕ) (old new : PassView P O R) (holder : ℕ) : Type 0 where
   pub root : ℕ
   pub rooted : RootFound old root
   pub another : holder ≢ old.number
@@ -89,7 +89,7 @@ pub record IsHeldUp {P : Type 0} (o : ℕ) (old new : PassView P) (holder : ℕ)
   pub knows : new ≡ record old { layout = Some (layout_in root); log = steps_tried o root (holder + 1) old }
 
 -- and has ended its call
-pub record HasFoundHeld {P : Type 0} (o : ℕ) (old new : PassView P) (holder : ℕ) : Type 0 where
+pub record HasFoundHeld {P O R : Type 0} (o : ℕ) (old new : PassView P O R) (holder : ℕ) : Type 0 where
   pub root : ℕ
   pub rooted : RootFound old root
   pub another : holder ≢ old.number
@@ -101,7 +101,7 @@ pub record HasFoundHeld {P : Type 0} (o : ℕ) (old new : PassView P) (holder : 
       (ended_view old)
 
 -- it has left the cell without a part, and has ended its call: it has installed nothing
-pub record HasGivenUp {P : Type 0} (o : ℕ) (old new : PassView P) : Type 0 where
+pub record HasGivenUp {P O R : Type 0} (o : ℕ) (old new : PassView P O R) : Type 0 where
   pub root : ℕ
   pub rooted : RootFound old root
   pub ended : ℕ
@@ -111,6 +111,6 @@ pub record HasGivenUp {P : Type 0} (o : ℕ) (old new : PassView P) : Type 0 whe
       (ended_view old)
 
 -- and this too after such tries
-pub record HasGivenUpAtLast {P : Type 0} (o : ℕ) (old new : PassView P) : Type 0 where
+pub record HasGivenUpAtLast {P O R : Type 0} (o : ℕ) (old new : PassView P O R) : Type 0 where
   pub tries : List (ℕ × ℕ)
   pub up : HasGivenUp o (refused_at o tries old) new

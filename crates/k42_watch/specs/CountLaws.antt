@@ -4,7 +4,7 @@ use Rattle.std.proofs.Common.{ap, sym, subst, ◌∙◌, inl, inr, arith}
 use Rattle.std.proofs.lemmas.Grind.{common_steps}
 use Rattle.std.specs.List.{AllByRecursion}
 use Rattle.k42_kinds.specs.Rows.{changed_at}
-use Rattle.k42_kinds.specs.Watched.{counted, told}
+use Rattle.k42_kinds.specs.Watched.{counted}
 use Rattle.k42_watch.specs.WatchedRows.{inners, seens, total, count_of, Counts, CountsNot, IsSmall, AreAlike, rejoined, from_zero, shared_out}
 use Rattle.k42_watch.specs.declared.watch.WatchPart.{WatchPart}
 
@@ -80,11 +80,10 @@ none-small [] all = tt
 none-small (None ∷ seen) all = (tt, none-small seen all.1)
 none-small (Some count ∷ seen) all = absurd all.0
 
--- one part alone tells what its row tells
-pub told-alone : (dead : Bool) (one : Option ℕ) → IsSmall one → told dead one ≡ told dead (count_of (one ∷ []))
-told-alone true one small = refl
-told-alone false None small = refl
-told-alone false (Some count) small = ap (λ n. told false (Some n)) (grind (arith, common_steps, small))
+-- one part alone has counted what its row has
+pub count-alone : (one : Option ℕ) → IsSmall one → one ≡ count_of (one ∷ [])
+count-alone None small = refl
+count-alone (Some count) small = ap Some (grind (arith, common_steps, small))
 
 -- rejoined parts are those that were joined
 pub inners-rejoined : {P : Type 0} (parts : List P) (seen : List (Option ℕ)) → inners (rejoined parts seen) ≡ parts

@@ -6,7 +6,7 @@ use Rattle.k42_kinds.specs.OneThread.{OneThread}
 use Rattle.k42_kinds.specs.Histories.{state_moved, is_call}
 use Rattle.k42_kinds.specs.Rows.{Ways, changed_at, part_at, cells_of, made_from, IsWithin}
 use Rattle.k42_kinds.specs.LayoutLaws.{StepsRow, StandsFor, Agree, Begins, Imports, AdmitsAsSwapped}
-use Rattle.k42_kinds.specs.Watched.{is_seen, counted, told, watch_state, watched}
+use Rattle.k42_kinds.specs.Watched.{Asking, counted, watch_state, watched}
 use Rattle.k42_kinds.specs.declared.entry.Reach.{Reach}
 use Rattle.k42_kinds.specs.declared.entry.Reach.TheVariants.{One, All}
 use Rattle.k42_kinds.specs.declared.entry.Act.{Act}
@@ -14,100 +14,83 @@ use Rattle.k42_kinds.specs.declared.entry.Act.TheVariants.{Swap}
 use Rattle.k42_kinds.specs.declared.entry.To.TheVariants as tos
 use Rattle.k42_kinds.specs.declared.entry.Answer.TheVariants.{Swapped}
 use Rattle.k42_kinds.specs.declared.operation.LayoutName.{LayoutName}
-use Rattle.k42_kinds.specs.declared.operation.Op.{Op}
-use Rattle.k42_kinds.specs.declared.operation.Op.TheVariants.{Add, Get, Drain, Bind, Find, Unbind, Size, Write, Read, Dirty, Clean, Seen}
-use Rattle.k42_kinds.specs.declared.operation.Reply.TheVariants.{Gone}
 use Rattle.k42_kinds.specs.declared.watch.WatchState.{WatchState}
 use Rattle.k42_watch.specs.Bare.{TakesNoSeen, KeepsState, AsksByTag}
 use Rattle.k42_watch.specs.WatchedRows.{inners, seens, count_of, CountsNot, IsSmall, AreAlike, seen_reach, watched_ways, IsWatchedRow, ServesWatched, seen_under, admitted_watched, act_under, watched_act}
-use Rattle.k42_watch.specs.CountLaws.{length-changed, length-inners, length-seens, none-same, count-none, count-counted, alike-changed, small-changed, count-small, none-small, told-alone, inners-rejoined, seens-rejoined, inners-shared, alike-shared, small-shared, dead-shared, count-shared}
+use Rattle.k42_watch.specs.CountLaws.{length-changed, length-inners, length-seens, none-same, count-none, count-counted, alike-changed, small-changed, count-small, none-small, count-alone, inners-rejoined, seens-rejoined, inners-shared, alike-shared, small-shared, dead-shared, count-shared}
 use Rattle.k42_watch.specs.declared.watch.Layer.{Layer}
 use Rattle.k42_watch.specs.declared.watch.Layer.TheVariants.{Keep, Place, Take}
 use Rattle.k42_watch.specs.declared.watch.WatchPart.{WatchPart}
 
-only_seen : (op : Op) → is_seen op ≡ true → op ≡ Seen
-only_seen (Add amount) is = cc
-only_seen Get is = cc
-only_seen Drain is = cc
-only_seen (Bind key number) is = cc
-only_seen (Find key) is = cc
-only_seen (Unbind key) is = cc
-only_seen Size is = cc
-only_seen (Write page text) is = cc
-only_seen (Read page) is = cc
-only_seen Dirty is = cc
-only_seen Clean is = cc
-only_seen Seen is = refl
-
 -- what the watched object tells of the object within
-abbrev stripped : {S : Type 0} → OneThread (WatchState S) → OneThread S
-stripped w = record {
+abbrev stripped : {S O R : Type 0} → Asking O R → OneThread (WatchState S) O R → OneThread S O R
+stripped k w = record {
   start = w.start.inner;
-  takes = λ op. if is_seen op then false else w.takes op;
+  takes = λ op. if k.asks op then false else w.takes op;
   after = λ state op. (w.after (watch_state state None) op).inner;
-  reply = λ state op. if is_seen op then Gone else w.reply (watch_state state None) op;
+  reply = λ state op. if k.asks op then k.tells true None else w.reply (watch_state state None) op;
   swapped = λ state to. (w.swapped (watch_state state None) to).inner;
   is_ended = λ state. w.is_ended (watch_state state None);
 }
 
-module _ {S : Type 0} (o : OneThread S) (no_seen : TakesNoSeen o) where
-  same_takes : (op : Op) (b : Bool) → is_seen op ≡ b → (stripped (watched o)).takes op ≡ o.takes op
-  same_takes op true is = rw is (sym (ap o.takes (only_seen op is) ∙ no_seen.takes))
+module _ {S O R : Type 0} (k : Asking O R) (o : OneThread S O R) (no_seen : TakesNoSeen k o) where
+  same_takes : (op : O) (b : Bool) → k.asks op ≡ b → (stripped k (watched k o)).takes op ≡ o.takes op
+  same_takes op true is = rw is (sym (no_seen.takes op is))
   same_takes op false is = rw is refl
 
-  same_after : (state : S) (op : Op) (b : Bool) → is_seen op ≡ b → (stripped (watched o)).after state op ≡ o.after state op
-  same_after state op true is = rw is (sym (ap (λ asked. o.after state asked) (only_seen op is) ∙ no_seen.after state))
+  same_after : (state : S) (op : O) (b : Bool) → k.asks op ≡ b → (stripped k (watched k o)).after state op ≡ o.after state op
+  same_after state op true is = rw is (sym (no_seen.after op is state))
   same_after state op false is = rw is refl
 
-  same_reply : (state : S) (op : Op) (b : Bool) → is_seen op ≡ b → (stripped (watched o)).reply state op ≡ o.reply state op
-  same_reply state op true is = rw is (sym (ap (λ asked. o.reply state asked) (only_seen op is) ∙ no_seen.reply state))
+  same_reply : (state : S) (op : O) (b : Bool) → k.asks op ≡ b → (stripped k (watched k o)).reply state op ≡ o.reply state op
+  same_reply state op true is = rw is (sym (no_seen.reply op is state))
   same_reply state op false is = rw is refl
 
-  pub stripped_back : stripped (watched o) ≡ o
+  pub stripped_back : stripped k (watched k o) ≡ o
   stripped_back = λ i. record {
     start = o.start;
-    takes = λ op. same_takes op (is_seen op) refl i;
-    after = λ state op. same_after state op (is_seen op) refl i;
-    reply = λ state op. same_reply state op (is_seen op) refl i;
+    takes = λ op. same_takes op (k.asks op) refl i;
+    after = λ state op. same_after state op (k.asks op) refl i;
+    reply = λ state op. same_reply state op (k.asks op) refl i;
     swapped = o.swapped;
     is_ended = o.is_ended;
   }
 
 -- objects are one where the watched ones are
-pub inner_same : {S : Type 0} (one other : OneThread S) → TakesNoSeen one → TakesNoSeen other → watched one ≡ watched other → one ≡ other
-inner_same one other first second same = sym (stripped_back one first) ∙ (ap stripped same ∙ stripped_back other second)
+pub inner_same : {S O R : Type 0} (k : Asking O R) (one other : OneThread S O R) → TakesNoSeen k one → TakesNoSeen k other → watched k one ≡ watched k other → one ≡ other
+inner_same k one other first second same = sym (stripped_back k one first) ∙ (ap (stripped k) same ∙ stripped_back k other second)
 
 pub some_of : {p procs : ℕ} → p < procs → 0 < procs
 some_of less = omega (arith, less)
 
-module _ {S P : Type 0} (ways : Ways S P) (tag : ℕ) (op : Op) (not : is_seen op ≡ false) where
+module _ {S P O R : Type 0} (k : Asking O R) (ways : Ways S P O R) (tag : ℕ) (op : O) (not : k.asks op ≡ false) where
   pub inners-changed : (row : List (WatchPart P)) (cell : ℕ)
-      → inners (changed_at (λ part. (watched_ways tag ways).part_after part op) row cell) ≡ changed_at (λ part. ways.part_after part op) (inners row) cell
+      → inners (changed_at (λ part. (watched_ways k tag ways).part_after part op) row cell) ≡ changed_at (λ part. ways.part_after part op) (inners row) cell
   inners-changed [] cell = refl
   inners-changed (part ∷ row) zero = rw not refl
   inners-changed (part ∷ row) (suc cell) = ap (λ (rest : List _). part.inner ∷ rest) (inners-changed row cell)
 
-  pub seens-changed : (row : List (WatchPart P)) (cell : ℕ) → seens (changed_at (λ part. (watched_ways tag ways).part_after part op) row cell) ≡ changed_at counted (seens row) cell
+  pub seens-changed : (row : List (WatchPart P)) (cell : ℕ) → seens (changed_at (λ part. (watched_ways k tag ways).part_after part op) row cell) ≡ changed_at counted (seens row) cell
   seens-changed [] cell = refl
   seens-changed (part ∷ row) zero = rw not refl
   seens-changed (part ∷ row) (suc cell) = ap (λ (rest : List (Option ℕ)). part.seen ∷ rest) (seens-changed row cell)
 
   pub replied-changed : (row : List (WatchPart P)) (cell : ℕ)
-      → option_map (λ part. (watched_ways tag ways).part_reply part op) (part_at row cell) ≡ option_map (λ part. ways.part_reply part op) (part_at (inners row) cell)
+      → option_map (λ part. (watched_ways k tag ways).part_reply part op) (part_at row cell) ≡ option_map (λ part. ways.part_reply part op) (part_at (inners row) cell)
   replied-changed [] cell = refl
   replied-changed (part ∷ row) zero = rw not refl
   replied-changed (part ∷ row) (suc cell) = replied-changed row cell
 
-after_counts : {S : Type 0} (o : OneThread S) (state : WatchState S) (op : Op) → is_seen op ≡ false → (watched o).after state op ≡ watch_state (o.after state.inner op) (counted state.seen)
-after_counts o state op not = rw not refl
+after_counts : {S O R : Type 0} (k : Asking O R) (o : OneThread S O R) (state : WatchState S) (op : O) → k.asks op ≡ false → (watched k o).after state op ≡ watch_state (o.after state.inner op) (counted state.seen)
+after_counts k o state op not = rw not refl
 
 -- an operation at one cell is the step of the watched object
-steps_at : {S P : Type 0} (o : OneThread S) (ways : Ways S P) (Whole : List P → Type 0) (tag : ℕ) (row : List (WatchPart P)) (op : Op) (cell : ℕ)
-    → is_seen op ≡ false → cell < length (seens row) → StepsRow o ways Whole (inners row) op (One cell) → IsWatchedRow tag Whole row
-    → StepsRow (watched o) (watched_ways tag ways) (IsWatchedRow tag Whole) row op (One cell)
-steps_at o ways Whole tag row op cell not there steps kept =
-    let inner = inners-changed ways tag op not row cell in
-    let seen = seens-changed ways tag op not row cell in
+steps_at : {S P O R : Type 0} (k : Asking O R) (o : OneThread S O R) (ways : Ways S P O R) (Whole : List P → Type 0) (tag : ℕ) (row : List (WatchPart P)) (op : O) (cell : ℕ)
+    → k.asks op ≡ false → cell < length (seens row) → StepsRow o ways Whole (inners row) op (One cell) → IsWatchedRow tag Whole row
+    → StepsRow (watched k o) (watched_ways k tag ways) (IsWatchedRow tag Whole) row op (One cell)
+steps_at k o ways Whole tag row op cell not there steps kept =
+    let inner = inners-changed k ways tag op not row cell in
+    let seen = seens-changed k ways tag op not row cell in
     record {
       whole = record {
         inner = subst Whole (sym inner) steps.whole;
@@ -115,15 +98,15 @@ steps_at o ways Whole tag row op cell not there steps kept =
         small = subst (AllByRecursion IsSmall) (sym seen) (small-changed (seens row) cell kept.small);
         dead = λ is. subst (AllByRecursion CountsNot) (sym (seen ∙ none-same (seens row) cell (kept.dead is))) (kept.dead is);
       };
-      moved = (λ i. watch_state ((ap ways.combine inner ∙ steps.moved) i) ((ap count_of seen ∙ count-counted (seens row) cell there kept.alike) i)) ∙ sym (after_counts o (watch_state (ways.combine (inners row)) (count_of (seens row))) op not);
-      replied = replied-changed ways tag op not row cell ∙ (steps.replied ∙ ap Some (rw not refl));
+      moved = (λ i. watch_state ((ap ways.combine inner ∙ steps.moved) i) ((ap count_of seen ∙ count-counted (seens row) cell there kept.alike) i)) ∙ sym (after_counts k o (watch_state (ways.combine (inners row)) (count_of (seens row))) op not);
+      replied = replied-changed k ways tag op not row cell ∙ (steps.replied ∙ ap Some (rw not refl));
     }
 
 -- an operation at all cells counts at the first
-steps_all_at : {S P : Type 0} (o : OneThread S) (ways : Ways S P) (Whole : List P → Type 0) (tag : ℕ) (row : List (WatchPart P)) (op : Op)
-    → is_seen op ≡ false → 0 < length row → length (ways.row_after (inners row) op) ≡ length row → StepsRow o ways Whole (inners row) op All → IsWatchedRow tag Whole row
-    → StepsRow (watched o) (watched_ways tag ways) (IsWatchedRow tag Whole) row op All
-steps_all_at o ways Whole tag row op not some same steps kept =
+steps_all_at : {S P O R : Type 0} (k : Asking O R) (o : OneThread S O R) (ways : Ways S P O R) (Whole : List P → Type 0) (tag : ℕ) (row : List (WatchPart P)) (op : O)
+    → k.asks op ≡ false → 0 < length row → length (ways.row_after (inners row) op) ≡ length row → StepsRow o ways Whole (inners row) op All → IsWatchedRow tag Whole row
+    → StepsRow (watched k o) (watched_ways k tag ways) (IsWatchedRow tag Whole) row op All
+steps_all_at k o ways Whole tag row op not some same steps kept =
     let after = ways.row_after (inners row) op in
     let news = changed_at counted (seens row) 0 in
     let size : length after ≡ length news = same ∙ (sym (length-seens row) ∙ sym (length-changed counted (seens row) 0)) in
@@ -145,40 +128,40 @@ seen_within : (tag procs : ℕ) (t : Bool) → (tag == 1) ≡ t → 0 < procs �
 seen_within tag procs true is some = rw is some
 seen_within tag procs false is some = rw is (omega arith)
 
-pub reaches_watched : {S P : Type 0} (o : OneThread S) (ways : Ways S P) (tag procs proc : ℕ) (op : Op) (b : Bool) → is_seen op ≡ b → 0 < procs
+pub reaches_watched : {S P O R : Type 0} (k : Asking O R) (o : OneThread S O R) (ways : Ways S P O R) (tag procs proc : ℕ) (op : O) (b : Bool) → k.asks op ≡ b → 0 < procs
     → (IsTrue (o.takes op) → IsWithin (cells_of tag procs) (ways.reach procs op proc))
-    → IsTrue ((watched o).takes op) → IsWithin (cells_of tag procs) ((watched_ways tag ways).reach procs op proc)
-reaches_watched o ways tag procs proc op false is some within takes = rw is (within (rw is at takes))
-reaches_watched o ways tag procs proc op true is some within takes = rw is (seen_within tag procs (tag == 1) refl some)
+    → IsTrue ((watched k o).takes op) → IsWithin (cells_of tag procs) ((watched_ways k tag ways).reach procs op proc)
+reaches_watched k o ways tag procs proc op false is some within takes = rw is (within (rw is at takes))
+reaches_watched k o ways tag procs proc op true is some within takes = rw is (seen_within tag procs (tag == 1) refl some)
 
 -- who asks for the count leaves the row, and is told what all count together
-module _ {S P : Type 0} (o : OneThread S) (ways : Ways S P) (Whole : List P → Type 0) (tag : ℕ) (row : List (WatchPart P)) (op : Op) (is : is_seen op ≡ true)
+module _ {S P O R : Type 0} (k : Asking O R) (o : OneThread S O R) (ways : Ways S P O R) (Whole : List P → Type 0) (tag : ℕ) (row : List (WatchPart P)) (op : O) (is : k.asks op ≡ true)
     (kept : IsWatchedRow tag Whole row) (ends : o.is_ended (ways.combine (inners row)) ≡ (tag == 2)) where
-  told_all : Some (told (tag == 2) (count_of (seens row))) ≡ Some (told (o.is_ended (ways.combine (inners row))) (count_of (seens row)))
-  told_all = ap (λ dead. Some (told dead (count_of (seens row)))) (sym ends)
+  told_all : Some (k.tells (tag == 2) (count_of (seens row))) ≡ Some (k.tells (o.is_ended (ways.combine (inners row))) (count_of (seens row)))
+  told_all = ap (λ dead. Some (k.tells dead (count_of (seens row)))) (sym ends)
 
-  seen_all : StepsRow (watched o) (watched_ways tag ways) (IsWatchedRow tag Whole) row op All
+  seen_all : StepsRow (watched k o) (watched_ways k tag ways) (IsWatchedRow tag Whole) row op All
   seen_all = record { whole = rw is kept; moved = rw is refl; replied = rw is told_all }
 
 -- and at one cell, where there is no other
-seen_one : {S P : Type 0} (o : OneThread S) (ways : Ways S P) (Whole : List P → Type 0) (tag : ℕ) (row : List (WatchPart P)) (op : Op) → is_seen op ≡ true
+seen_one : {S P O R : Type 0} (k : Asking O R) (o : OneThread S O R) (ways : Ways S P O R) (Whole : List P → Type 0) (tag : ℕ) (row : List (WatchPart P)) (op : O) → k.asks op ≡ true
     → IsWatchedRow tag Whole row → o.is_ended (ways.combine (inners row)) ≡ (tag == 2) → length row ≡ 1
-    → StepsRow (watched o) (watched_ways tag ways) (IsWatchedRow tag Whole) row op (One 0)
-seen_one o ways Whole tag [] op is kept ends alone = absurd cc
-seen_one o ways Whole tag (part ∷ []) op is kept ends alone = record {
+    → StepsRow (watched k o) (watched_ways k tag ways) (IsWatchedRow tag Whole) row op (One 0)
+seen_one k o ways Whole tag [] op is kept ends alone = absurd cc
+seen_one k o ways Whole tag (part ∷ []) op is kept ends alone = record {
   whole = rw is kept;
   moved = rw is refl;
-  replied = rw is (ap Some (told-alone (tag == 2) part.seen kept.small.0) ∙ told_all o ways Whole tag (part ∷ []) op is kept ends);
+  replied = rw is (ap (λ seen. Some (k.tells (tag == 2) seen)) (count-alone part.seen kept.small.0) ∙ told_all k o ways Whole tag (part ∷ []) op is kept ends);
 }
-seen_one o ways Whole tag (part ∷ other ∷ row) op is kept ends alone = absurd cc
+seen_one k o ways Whole tag (part ∷ other ∷ row) op is kept ends alone = absurd cc
 
 cells_some : (tag procs : ℕ) (t : Bool) → (tag == 1) ≡ t → 0 < procs → 0 < cells_of tag procs
 cells_some tag procs true is some = rw is some
 cells_some tag procs false is some = rw is (omega arith)
 
-module _ {S P : Type 0} (o : OneThread S) (ways : Ways S P) (Whole : List P → Type 0) (Serves : S → Type 0) (tag procs : ℕ) (some : 0 < procs)
+module _ {S P O R : Type 0} (k : Asking O R) (o : OneThread S O R) (ways : Ways S P O R) (Whole : List P → Type 0) (Serves : S → Type 0) (tag procs : ℕ) (some : 0 < procs)
     (stands : (parts : List P) → Whole parts → StandsFor ways Serves tag procs parts) (ends : (state : S) → Serves state → o.is_ended state ≡ (tag == 2))
-    (row : List (WatchPart P)) (op : Op) (kept : IsWatchedRow tag Whole row) where
+    (row : List (WatchPart P)) (op : O) (kept : IsWatchedRow tag Whole row) where
   sized : length row ≡ cells_of tag procs
   sized = sym (length-inners row) ∙ (stands (inners row) kept.inner).sized
 
@@ -188,48 +171,48 @@ module _ {S P : Type 0} (o : OneThread S) (ways : Ways S P) (Whole : List P → 
   filled : 0 < length row
   filled = subst (λ n. 0 < n) (sym sized) (cells_some tag procs (tag == 1) refl some)
 
-  seen_steps : (t : Bool) → (tag == 1) ≡ t → is_seen op ≡ true → StepsRow (watched o) (watched_ways tag ways) (IsWatchedRow tag Whole) row op (seen_reach tag)
-  seen_steps true t is = subst (StepsRow (watched o) (watched_ways tag ways) (IsWatchedRow tag Whole) row op) (sym (ap (λ (b : Bool). if b then All else One 0) t)) (seen_all o ways Whole tag row op is kept ended)
-  seen_steps false t is = subst (StepsRow (watched o) (watched_ways tag ways) (IsWatchedRow tag Whole) row op) (sym (ap (λ (b : Bool). if b then All else One 0) t)) (seen_one o ways Whole tag row op is kept ended (sized ∙ ap (λ (b : Bool). if b then procs else 1) t))
+  seen_steps : (t : Bool) → (tag == 1) ≡ t → k.asks op ≡ true → StepsRow (watched k o) (watched_ways k tag ways) (IsWatchedRow tag Whole) row op (seen_reach tag)
+  seen_steps true t is = subst (StepsRow (watched k o) (watched_ways k tag ways) (IsWatchedRow tag Whole) row op) (sym (ap (λ (b : Bool). if b then All else One 0) t)) (seen_all k o ways Whole tag row op is kept ended)
+  seen_steps false t is = subst (StepsRow (watched k o) (watched_ways k tag ways) (IsWatchedRow tag Whole) row op) (sym (ap (λ (b : Bool). if b then All else One 0) t)) (seen_one k o ways Whole tag row op is kept ended (sized ∙ ap (λ (b : Bool). if b then procs else 1) t))
 
-  pub all_steps : (b : Bool) → is_seen op ≡ b → IsTrue ((watched o).takes op) → (IsTrue (o.takes op) → StepsRow o ways Whole (inners row) op All)
-      → StepsRow (watched o) (watched_ways tag ways) (IsWatchedRow tag Whole) row op All
-  all_steps true is takes own = seen_all o ways Whole tag row op is kept ended
+  pub all_steps : (b : Bool) → k.asks op ≡ b → IsTrue ((watched k o).takes op) → (IsTrue (o.takes op) → StepsRow o ways Whole (inners row) op All)
+      → StepsRow (watched k o) (watched_ways k tag ways) (IsWatchedRow tag Whole) row op All
+  all_steps true is takes own = seen_all k o ways Whole tag row op is kept ended
   all_steps false is takes own =
       let steps = own (rw is at takes) in
-      steps_all_at o ways Whole tag row op is filled ((stands (ways.row_after (inners row) op) steps.whole).sized ∙ sym sized) steps kept
+      steps_all_at k o ways Whole tag row op is filled ((stands (ways.row_after (inners row) op) steps.whole).sized ∙ sym sized) steps kept
 
-  own_steps : (reach : Reach) → is_seen op ≡ false → StepsRow o ways Whole (inners row) op reach → IsWithin (cells_of tag procs) reach
-      → StepsRow (watched o) (watched_ways tag ways) (IsWatchedRow tag Whole) row op reach
-  own_steps (One cell) is steps within = steps_at o ways Whole tag row op cell is (subst (λ n. cell < n) (sym (length-seens row ∙ sized)) within) steps kept
-  own_steps All is steps within = steps_all_at o ways Whole tag row op is filled ((stands (ways.row_after (inners row) op) steps.whole).sized ∙ sym sized) steps kept
+  own_steps : (reach : Reach) → k.asks op ≡ false → StepsRow o ways Whole (inners row) op reach → IsWithin (cells_of tag procs) reach
+      → StepsRow (watched k o) (watched_ways k tag ways) (IsWatchedRow tag Whole) row op reach
+  own_steps (One cell) is steps within = steps_at k o ways Whole tag row op cell is (subst (λ n. cell < n) (sym (length-seens row ∙ sized)) within) steps kept
+  own_steps All is steps within = steps_all_at k o ways Whole tag row op is filled ((stands (ways.row_after (inners row) op) steps.whole).sized ∙ sym sized) steps kept
 
-  pub reached_steps : (proc : ℕ) (b : Bool) → is_seen op ≡ b → IsTrue ((watched o).takes op) → (IsTrue (o.takes op) → StepsRow o ways Whole (inners row) op (ways.reach procs op proc))
+  pub reached_steps : (proc : ℕ) (b : Bool) → k.asks op ≡ b → IsTrue ((watched k o).takes op) → (IsTrue (o.takes op) → StepsRow o ways Whole (inners row) op (ways.reach procs op proc))
       → (IsTrue (o.takes op) → IsWithin (cells_of tag procs) (ways.reach procs op proc))
-      → StepsRow (watched o) (watched_ways tag ways) (IsWatchedRow tag Whole) row op ((watched_ways tag ways).reach procs op proc)
-  reached_steps proc true is takes own within = subst (StepsRow (watched o) (watched_ways tag ways) (IsWatchedRow tag Whole) row op) (sym (rw is refl)) (seen_steps (tag == 1) refl is)
-  reached_steps proc false is takes own within = subst (StepsRow (watched o) (watched_ways tag ways) (IsWatchedRow tag Whole) row op) (sym (rw is refl)) (own_steps (ways.reach procs op proc) is (own (rw is at takes)) (within (rw is at takes)))
+      → StepsRow (watched k o) (watched_ways k tag ways) (IsWatchedRow tag Whole) row op ((watched_ways k tag ways).reach procs op proc)
+  reached_steps proc true is takes own within = subst (StepsRow (watched k o) (watched_ways k tag ways) (IsWatchedRow tag Whole) row op) (sym (rw is refl)) (seen_steps (tag == 1) refl is)
+  reached_steps proc false is takes own within = subst (StepsRow (watched k o) (watched_ways k tag ways) (IsWatchedRow tag Whole) row op) (sym (rw is refl)) (own_steps (ways.reach procs op proc) is (own (rw is at takes)) (within (rw is at takes)))
 
-pub stands_watched : {S P : Type 0} (ways : Ways S P) (Whole : List P → Type 0) (Serves : S → Type 0) (tag procs : ℕ) (row : List (WatchPart P))
-    → IsWatchedRow tag Whole row → StandsFor ways Serves tag procs (inners row) → StandsFor (watched_ways tag ways) (ServesWatched tag Serves) tag procs row
-stands_watched ways Whole Serves tag procs row kept stands = record {
+pub stands_watched : {S P O R : Type 0} (k : Asking O R) (ways : Ways S P O R) (Whole : List P → Type 0) (Serves : S → Type 0) (tag procs : ℕ) (row : List (WatchPart P))
+    → IsWatchedRow tag Whole row → StandsFor ways Serves tag procs (inners row) → StandsFor (watched_ways k tag ways) (ServesWatched tag Serves) tag procs row
+stands_watched k ways Whole Serves tag procs row kept stands = record {
   sized = sym (length-inners row) ∙ stands.sized;
   served = record { inner = stands.served; small = count-small (seens row); dead = λ is. count-none (seens row) (kept.dead is) };
 }
 
-inners-made : {S P : Type 0} (ways : Ways S P) (tag procs first many : ℕ) → inners (made_from ((watched_ways tag ways).empty procs) first many) ≡ made_from (ways.empty procs) first many
-inners-made ways tag procs first zero = refl
-inners-made ways tag procs first (suc many) = ap (λ (rest : List _). ways.empty procs first ∷ rest) (inners-made ways tag procs (suc first) many)
+inners-made : {S P O R : Type 0} (k : Asking O R) (ways : Ways S P O R) (tag procs first many : ℕ) → inners (made_from ((watched_ways k tag ways).empty procs) first many) ≡ made_from (ways.empty procs) first many
+inners-made k ways tag procs first zero = refl
+inners-made k ways tag procs first (suc many) = ap (λ (rest : List _). ways.empty procs first ∷ rest) (inners-made k ways tag procs (suc first) many)
 
-none-made : {S P : Type 0} (ways : Ways S P) (tag procs first many : ℕ) → AllByRecursion CountsNot (seens (made_from ((watched_ways tag ways).empty procs) first many))
-none-made ways tag procs first zero = tt
-none-made ways tag procs first (suc many) = (tt, none-made ways tag procs (suc first) many)
+none-made : {S P O R : Type 0} (k : Asking O R) (ways : Ways S P O R) (tag procs first many : ℕ) → AllByRecursion CountsNot (seens (made_from ((watched_ways k tag ways).empty procs) first many))
+none-made k ways tag procs first zero = tt
+none-made k ways tag procs first (suc many) = (tt, none-made k ways tag procs (suc first) many)
 
-pub begins_watched : {S P : Type 0} (o : OneThread S) (ways : Ways S P) (Whole : List P → Type 0) (tag procs : ℕ) → Begins o ways Whole tag procs
-    → Begins (watched o) (watched_ways tag ways) (IsWatchedRow tag Whole) tag procs
-begins_watched o ways Whole tag procs begins =
-    let inner = inners-made ways tag procs 0 (cells_of tag procs) in
-    let none = none-made ways tag procs 0 (cells_of tag procs) in
+pub begins_watched : {S P O R : Type 0} (k : Asking O R) (o : OneThread S O R) (ways : Ways S P O R) (Whole : List P → Type 0) (tag procs : ℕ) → Begins o ways Whole tag procs
+    → Begins (watched k o) (watched_ways k tag ways) (IsWatchedRow tag Whole) tag procs
+begins_watched k o ways Whole tag procs begins =
+    let inner = inners-made k ways tag procs 0 (cells_of tag procs) in
+    let none = none-made k ways tag procs 0 (cells_of tag procs) in
     record {
       whole = record {
         inner = subst Whole (sym inner) begins.whole;
@@ -240,10 +223,10 @@ begins_watched o ways Whole tag procs begins =
       empty = λ live. λ i. watch_state ((ap ways.combine inner ∙ begins.empty live) i) (count-none _ none i);
     }
 
-pub imports_watched : {S P : Type 0} (ways : Ways S P) (Whole : List P → Type 0) (Serves : S → Type 0) (tag procs : ℕ) (state : WatchState S) → 0 < procs
+pub imports_watched : {S P O R : Type 0} (k : Asking O R) (ways : Ways S P O R) (Whole : List P → Type 0) (Serves : S → Type 0) (tag procs : ℕ) (state : WatchState S) → 0 < procs
     → ServesWatched tag Serves state → Imports ways Whole procs state.inner → ((parts : List P) → Whole parts → StandsFor ways Serves tag procs parts)
-    → Imports (watched_ways tag ways) (IsWatchedRow tag Whole) procs state
-imports_watched ways Whole Serves tag procs state some kept imports stands =
+    → Imports (watched_ways k tag ways) (IsWatchedRow tag Whole) procs state
+imports_watched k ways Whole Serves tag procs state some kept imports stands =
     let parts = ways.imported procs state.inner in
     let inner = inners-shared state.seen parts in
     let filled : 0 < length parts = subst (λ n. 0 < n) (sym (stands parts imports.whole).sized) (cells_some tag procs (tag == 1) refl some) in
@@ -275,45 +258,45 @@ admits_watched Serves admitted tag layer state small served = record {
 }
 
 -- a swap to a live layout leaves the state, and so do a watch and an unwatch
-module _ {S : Type 0} (o : OneThread S) (keeps : KeepsState o) (inner admitted : S) (seen : Option ℕ) (number : ℕ) (act : Act) (name : LayoutName)
+module _ {S O R : Type 0} (k : Asking O R) (o : OneThread S O R) (keeps : KeepsState o) (inner admitted : S) (seen : Option ℕ) (number : ℕ) (act : Act O) (name : LayoutName)
     (is : act ≡ Swap (tos.Layout name)) (same : o.swapped inner (tos.Layout name) ≡ admitted) where
   left : inner ≡ admitted
   left = sym (keeps inner (tos.Layout name) (λ dead. cc dead)) ∙ same
 
-  swaps_live : (layer : Layer) → state_moved (watched o) (watch_state inner seen) (act_under layer act) (Swapped number) ≡ watch_state admitted (seen_under layer seen)
-  swaps_live Keep = ap (λ (asked : Act). state_moved (watched o) (watch_state inner seen) asked (Swapped number)) is ∙ ap (λ (state : S). watch_state state seen) same
+  swaps_live : (layer : Layer) → state_moved (watched k o) (watch_state inner seen) (act_under layer act) (Swapped number) ≡ watch_state admitted (seen_under layer seen)
+  swaps_live Keep = ap (λ (asked : Act O). state_moved (watched k o) (watch_state inner seen) asked (Swapped number)) is ∙ ap (λ (state : S). watch_state state seen) same
   swaps_live Place = ap (λ (state : S). watch_state state (Some 0)) (keeps inner tos.Watch (λ dead. cc dead) ∙ left)
   swaps_live Take = ap (λ (state : S). watch_state state None) (keeps inner tos.Unwatch (λ dead. cc dead) ∙ left)
 
-pub swaps_watched : {S : Type 0} (o : OneThread S) (admitted : S → S) (tag : ℕ) (layer : Layer) (act : Act) (state : WatchState S) → KeepsState o → AsksByTag tag act
-    → AdmitsAsSwapped o act state.inner (admitted state.inner) → AdmitsAsSwapped (watched o) (watched_act tag layer act) state (admitted_watched tag layer admitted state)
-swaps_watched o admitted tag layer act state keeps (inl live) swaps number =
-    ap (λ (b : Bool). state_moved (watched o) state (if b then Swap tos.Dead else act_under layer act) (Swapped number)) live.live
-    ∙ swaps_live o keeps state.inner (admitted state.inner) state.seen number act live.name live.act
-    (subst (λ (asked : Act). state_moved o state.inner asked (Swapped number) ≡ admitted state.inner) live.act (swaps number)) layer
+pub swaps_watched : {S O R : Type 0} (k : Asking O R) (o : OneThread S O R) (admitted : S → S) (tag : ℕ) (layer : Layer) (act : Act O) (state : WatchState S) → KeepsState o → AsksByTag tag act
+    → AdmitsAsSwapped o act state.inner (admitted state.inner) → AdmitsAsSwapped (watched k o) (watched_act tag layer act) state (admitted_watched tag layer admitted state)
+swaps_watched {O} k o admitted tag layer act state keeps (inl live) swaps number =
+    ap (λ (b : Bool). state_moved (watched k o) state (if b then Swap tos.Dead else act_under layer act) (Swapped number)) live.live
+    ∙ swaps_live k o keeps state.inner (admitted state.inner) state.seen number act live.name live.act
+    (subst (λ (asked : Act O). state_moved o state.inner asked (Swapped number) ≡ admitted state.inner) live.act (swaps number)) layer
     ∙ ap (λ (b : Bool). watch_state (admitted state.inner) (if b then None else seen_under layer state.seen)) (sym live.live)
-swaps_watched o admitted tag layer act state keeps (inr dead) swaps number =
-    ap (λ (b : Bool). state_moved (watched o) state (if b then Swap tos.Dead else act_under layer act) (Swapped number)) dead.dead
-    ∙ ap (λ (left : _). watch_state left None) (subst (λ (asked : Act). state_moved o state.inner asked (Swapped number) ≡ admitted state.inner) dead.act (swaps number))
+swaps_watched {O} k o admitted tag layer act state keeps (inr dead) swaps number =
+    ap (λ (b : Bool). state_moved (watched k o) state (if b then Swap tos.Dead else act_under layer act) (Swapped number)) dead.dead
+    ∙ ap (λ (left : _). watch_state left None) (subst (λ (asked : Act O). state_moved o state.inner asked (Swapped number) ≡ admitted state.inner) dead.act (swaps number))
     ∙ ap (λ (b : Bool). watch_state (admitted state.inner) (if b then None else seen_under layer state.seen)) (sym dead.dead)
 
-asks_under : (layer : Layer) (act : Act) → is_call act ≡ false → is_call (act_under layer act) ≡ false
+asks_under : {O : Type 0} (layer : Layer) (act : Act O) → is_call act ≡ false → is_call (act_under layer act) ≡ false
 asks_under Keep act asks = asks
 asks_under Place act asks = refl
 asks_under Take act asks = refl
 
-asks_if : (b : Bool) (layer : Layer) (act : Act) → is_call act ≡ false → is_call (if b then Swap tos.Dead else act_under layer act) ≡ false
+asks_if : {O : Type 0} (b : Bool) (layer : Layer) (act : Act O) → is_call act ≡ false → is_call (if b then Swap tos.Dead else act_under layer act) ≡ false
 asks_if true layer act asks = refl
 asks_if false layer act asks = asks_under layer act asks
 
-pub asks_watched : (tag : ℕ) (layer : Layer) (act : Act) → is_call act ≡ false → is_call (watched_act tag layer act) ≡ false
+pub asks_watched : {O : Type 0} (tag : ℕ) (layer : Layer) (act : Act O) → is_call act ≡ false → is_call (watched_act tag layer act) ≡ false
 asks_watched tag layer act asks = asks_if (tag == 2) layer act asks
 
-pub agree_watched : {S P : Type 0} (these those : Ways S P) (Whole Other : ℕ → List P → Type 0) (Serves OtherServes : S → Type 0) (tag tags : ℕ)
+pub agree_watched : {S P O R : Type 0} (k : Asking O R) (these those : Ways S P O R) (Whole Other : ℕ → List P → Type 0) (Serves OtherServes : S → Type 0) (tag tags : ℕ)
     → tag ≡ tags → Agree these those Whole Other Serves OtherServes
-    → Agree (watched_ways tag these) (watched_ways tags those) (λ procs. IsWatchedRow tag (Whole procs)) (λ procs. IsWatchedRow tags (Other procs)) (ServesWatched tag Serves) (ServesWatched tags OtherServes)
-agree_watched these those Whole Other Serves OtherServes tag tags same is = record {
-  ways = λ i. watched_ways (same i) (is.ways i);
+    → Agree (watched_ways k tag these) (watched_ways k tags those) (λ procs. IsWatchedRow tag (Whole procs)) (λ procs. IsWatchedRow tags (Other procs)) (ServesWatched tag Serves) (ServesWatched tags OtherServes)
+agree_watched k these those Whole Other Serves OtherServes tag tags same is = record {
+  ways = λ i. watched_ways k (same i) (is.ways i);
   whole = λ procs row kept. record { inner = is.whole procs (inners row) kept.inner; alike = kept.alike; small = kept.small; dead = λ dead. kept.dead (same ∙ dead) };
   served = λ state kept. record { inner = is.served state.inner kept.inner; small = kept.small; dead = λ dead. kept.dead (same ∙ dead) };
 }

@@ -2,7 +2,7 @@
 use Rattle.std.specs.Prelude.{◌≡◌, ℕ, ◌+◌, ◌%◌, ◌^◌, ◌<◌, ◌==◌, ◌⊎◌, if◌then◌else◌, List, [], ◌∷◌, map, Option, Some, None}
 use Rattle.std.specs.List.{AllByRecursion}
 use Rattle.k42_kinds.specs.Rows.{Ways, changed_at}
-use Rattle.k42_kinds.specs.Watched.{is_seen, counted, told, watch_state}
+use Rattle.k42_kinds.specs.Watched.{Asking, counted, watch_state}
 use Rattle.k42_kinds.specs.declared.entry.Reach.{Reach}
 use Rattle.k42_kinds.specs.declared.entry.Reach.TheVariants.{One, All}
 use Rattle.k42_kinds.specs.declared.entry.Act.{Act}
@@ -73,19 +73,19 @@ seen_reach tag = if tag == 1 then All else One 0
 
 -- The layer answers `seen` by itself. It counts every other operation at the cell that it needs, and
 -- an operation at all cells at the first.
-abbrev pub watched_ways : {S P : Type 0} → ℕ → Ways S P → Ways (WatchState S) (WatchPart P)
-watched_ways tag ways = record {
-  reach = λ procs op proc. if is_seen op then seen_reach tag else ways.reach procs op proc;
+abbrev pub watched_ways : {S P O R : Type 0} → Asking O R → ℕ → Ways S P O R → Ways (WatchState S) (WatchPart P) O R
+watched_ways k tag ways = record {
+  reach = λ procs op proc. if k.asks op then seen_reach tag else ways.reach procs op proc;
   empty = λ procs cell. watch_part (ways.empty procs cell) None;
   part_after = λ part op.
-      if is_seen op then part else watch_part (ways.part_after part.inner op) (counted part.seen);
+      if k.asks op then part else watch_part (ways.part_after part.inner op) (counted part.seen);
   part_reply = λ part op.
-      if is_seen op then told (tag == 2) part.seen else ways.part_reply part.inner op;
+      if k.asks op then k.tells (tag == 2) part.seen else ways.part_reply part.inner op;
   row_after = λ row op.
-      if is_seen op then row
+      if k.asks op then row
       else rejoined (ways.row_after (inners row) op) (changed_at counted (seens row) 0);
   row_reply = λ row op.
-      if is_seen op then told (tag == 2) (count_of (seens row)) else ways.row_reply (inners row) op;
+      if k.asks op then k.tells (tag == 2) (count_of (seens row)) else ways.row_reply (inners row) op;
   combine = λ row. watch_state (ways.combine (inners row)) (count_of (seens row));
   imported = λ procs state. shared_out state.seen (ways.imported procs state.inner);
 }
@@ -113,10 +113,10 @@ admitted_watched tag layer admitted state =
     watch_state (admitted state.inner) (if tag == 2 then None else seen_under layer state.seen)
 
 -- what is asked of an object that is to be kept so: a live layout may place the layer, or take it
-abbrev pub act_under : Layer → Act → Act
+abbrev pub act_under : {O : Type 0} → Layer → Act O → Act O
 act_under Keep act = act
 act_under Place act = Swap tos.Watch
 act_under Take act = Swap tos.Unwatch
 
-abbrev pub watched_act : ℕ → Layer → Act → Act
+abbrev pub watched_act : {O : Type 0} → ℕ → Layer → Act O → Act O
 watched_act tag layer act = if tag == 2 then Swap tos.Dead else act_under layer act

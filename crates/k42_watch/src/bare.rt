@@ -1,17 +1,27 @@
 //! Layouts that know of no layer.
 ghost use Rattle.std.specs.Prelude.{◌≡◌, ◌≤◌};
+ghost use Rattle.k42_kinds.specs.Watched.{Asking};
 ghost use Rattle.k42_watch.specs.Bare.{TakesNoSeen, KeepsState, AsksByTag};
 
 use k42_kinds::Layout;
 
 /// A layout round which a layer can be placed: it places none itself.
 pub trait Bare: Layout {
+    /// Which operations ask for the count, and what they are told.
+    ghost asking: { Asking Self.Op Self.Reply };
+
+    fn asks_count(op: &Self::Op) -> bool
+        ensures { result ≡ asking.asks op.now };
+
+    fn tell_count(dead: bool, seen: Option<u64>) -> Self::Reply
+        ensures { result ≡ asking.tells dead seen };
+
     /// Whether an object in this state is at its end.
     fn has_ended(&self, state: &Self::State) -> bool
         ensures { result ≡ (Self.object self.now).is_ended state.now };
 
     /// Its object leaves the count to the layer.
-    ghost takes_no_seen: { (layout : Self) → TakesNoSeen (Self.object layout) };
+    ghost takes_no_seen: { (layout : Self) → TakesNoSeen asking (Self.object layout) };
 
     /// Every swap of its object but a destroy leaves the state.
     ghost keeps_state: { (layout : Self) → KeepsState (Self.object layout) };

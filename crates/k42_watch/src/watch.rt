@@ -1,14 +1,14 @@
 //! A layout with a layer round it that counts the calls of its object.
 ghost use Rattle.std.specs.Prelude.{◌≡◌, ◌==◌, ◌≤◌, IsTrue, refl};
 ghost use Rattle.k42_kinds.specs.LayoutLaws.{IsTagged};
-ghost use Rattle.k42_kinds.specs.Watched.{is_seen, watched};
+ghost use Rattle.k42_kinds.specs.Watched.{watched};
 ghost use Rattle.k42_watch.specs.WatchedRows.{inners, watched_ways, IsWatchedRow, ServesWatched, admitted_watched, watched_act};
 ghost use Rattle.k42_watch.specs.WatchLaws as laws;
 ghost use Rattle.k42_watch.specs.declared.watch.Layer.TheVariants.{Keep};
 
 use crate::bare::Bare;
 use crate::rows::{count_made, count_of, put_together, shared_out, take_apart};
-use k42_kinds::{Act, Kind, Layout, Op, Reach, Reply, To, WatchState, counted, is_seen, told};
+use k42_kinds::{Act, Kind, Layout, Reach, To, WatchState, counted};
 use k42_memory::Memory;
 use std::alloc::Global;
 use std::mem::replace;
@@ -39,7 +39,11 @@ pub struct WatchPart<P> {
 impl<L: Bare> Kind for Watch<L> {
     type State = WatchState<L::State>;
 
-    ghost object = { λ watch. watched (L.object watch.inner) };
+    type Op = L::Op;
+
+    type Reply = L::Reply;
+
+    ghost object = { λ watch. watched L.asking (L.object watch.inner) };
 
     fn empty(&self, alloc: Global) -> WatchState<L::State> {
         WatchState {
@@ -52,10 +56,10 @@ impl<L: Bare> Kind for Watch<L> {
         &self,
         alloc: Global,
         state: &mut WatchState<L::State>,
-        op: &Op,
-    ) -> Result<Reply, Memory> {
-        if is_seen(op) {
-            return Ok(told(self.inner.has_ended(&state.inner), state.seen));
+        op: &L::Op,
+    ) -> Result<L::Reply, Memory> {
+        if L::asks_count(op) {
+            return Ok(L::tell_count(self.inner.has_ended(&state.inner), state.seen));
         }
         let reply = self.inner.step(alloc, &mut state.inner, op)?;
         state.seen = counted(state.seen);
@@ -70,7 +74,7 @@ impl<L: Bare> Layout for Watch<L> {
 
     ghost has_tag = { λ watch tag. L.has_tag watch.inner tag };
 
-    ghost ways = { λ watch. watched_ways (L.tag_of watch.inner) (L.ways watch.inner) };
+    ghost ways = { λ watch. watched_ways L.asking (L.tag_of watch.inner) (L.ways watch.inner) };
 
     ghost whole = { λ watch procs. IsWatchedRow (L.tag_of watch.inner) (L.whole watch.inner procs) };
 
@@ -86,7 +90,7 @@ impl<L: Bare> Layout for Watch<L> {
 
     fn with_tag(&self, tag: u32) -> Self
         requires { IsTrue (L.has_tag self.now.inner tag) }
-        ensures tagged { IsTagged (watched (L.object result.inner)) (watched (L.object self.now.inner)) (L.tag_of result.inner) tag }
+        ensures tagged { IsTagged (watched L.asking (L.object result.inner)) (watched L.asking (L.object self.now.inner)) (L.tag_of result.inner) tag }
         ensures keeps { result.layer ≡ Keep }
     {
         Watch {
@@ -95,8 +99,8 @@ impl<L: Bare> Layout for Watch<L> {
         }
     }
 
-    fn reach(&self, op: &Op, proc: u32, procs: u32) -> Reach {
-        if !is_seen(op) {
+    fn reach(&self, op: &L::Op, proc: u32, procs: u32) -> Reach {
+        if !L::asks_count(op) {
             return self.inner.reach(op, proc, procs);
         }
         if self.inner.tag() == 1 {
@@ -123,10 +127,10 @@ impl<L: Bare> Layout for Watch<L> {
         &self,
         alloc: Global,
         part: &mut WatchPart<L::Part>,
-        op: &Op,
-    ) -> Result<Reply, Memory> {
-        if is_seen(op) {
-            return Ok(told(self.inner.tag() == 2, part.seen));
+        op: &L::Op,
+    ) -> Result<L::Reply, Memory> {
+        if L::asks_count(op) {
+            return Ok(L::tell_count(self.inner.tag() == 2, part.seen));
         }
         let reply = self.inner.step_one(alloc, &mut part.inner, op)?;
         part.seen = counted(part.seen);
@@ -137,10 +141,10 @@ impl<L: Bare> Layout for Watch<L> {
         &self,
         alloc: Global,
         parts: &mut Vec<WatchPart<L::Part>>,
-        op: &Op,
-    ) -> Result<Reply, Memory> {
-        if is_seen(op) {
-            return Ok(told(self.inner.tag() == 2, count_of(parts)));
+        op: &L::Op,
+    ) -> Result<L::Reply, Memory> {
+        if L::asks_count(op) {
+            return Ok(L::tell_count(self.inner.tag() == 2, count_of(parts)));
         }
         let mut inners = Vec::with_capacity(alloc, parts.len())?;
         let mut seens = Vec::with_capacity(alloc, parts.len())?;
@@ -193,7 +197,7 @@ impl<L: Bare> Layout for Watch<L> {
         }
     }
 
-    fn act(&self) -> Act {
+    fn act(&self) -> Act<L::Op> {
         match self.layer {
             _ if self.inner.tag() == 2 => Act::Swap(To::Dead),
             Layer::Keep => self.inner.act(),
@@ -203,49 +207,50 @@ impl<L: Bare> Layout for Watch<L> {
     }
 
     ghost steps = { λ watch procs proc row op known there takes kept.
-        laws.reached_steps (L.object watch.inner) (L.ways watch.inner) (L.whole watch.inner procs) (L.serves
+        laws.reached_steps L.asking (L.object watch.inner) (L.ways watch.inner) (L.whole watch.inner procs) (L.serves
         watch.inner) (L.tag_of watch.inner) procs (laws.some_of there)
-        (λ parts whole. L.stands watch.inner procs parts known (laws.some_of there) whole) (λ state served. L.ends watch.inner state known served) row op kept proc (is_seen op) refl takes
+        (λ parts whole. L.stands watch.inner procs parts known (laws.some_of there) whole) (λ state served. L.ends watch.inner state known served) row op kept proc (L.asking.asks op) refl takes
         (λ own. L.steps watch.inner procs proc (inners row) op known there own kept.inner) (λ own. L.reaches watch.inner procs proc op known there own) };
 
     ghost steps_all = { λ watch procs row op known some takes kept.
-        laws.all_steps (L.object watch.inner) (L.ways watch.inner) (L.whole watch.inner procs) (L.serves
+        laws.all_steps L.asking (L.object watch.inner) (L.ways watch.inner) (L.whole watch.inner procs) (L.serves
         watch.inner) (L.tag_of watch.inner) procs some
-        (λ parts whole. L.stands watch.inner procs parts known some whole) (λ state served. L.ends watch.inner state known served) row op kept (is_seen op) refl takes
+        (λ parts whole. L.stands watch.inner procs parts known some whole) (λ state served. L.ends watch.inner state known served) row op kept (L.asking.asks op) refl takes
         (λ own. L.steps_all watch.inner procs (inners row) op known some own kept.inner) };
 
     ghost reaches = { λ watch procs proc op known there takes.
-        laws.reaches_watched (L.object watch.inner) (L.ways watch.inner) (L.tag_of watch.inner) procs proc op
-        (is_seen op) refl (laws.some_of there)
+        laws.reaches_watched L.asking (L.object watch.inner) (L.ways watch.inner) (L.tag_of watch.inner) procs proc op
+        (L.asking.asks op) refl (laws.some_of there)
         (λ own. L.reaches watch.inner procs proc op known there own) takes };
 
     ghost stands = { λ watch procs row known some kept.
-        laws.stands_watched (L.ways watch.inner) (L.whole watch.inner procs) (L.serves watch.inner) (L.tag_of
+        laws.stands_watched L.asking (L.ways watch.inner) (L.whole watch.inner procs) (L.serves watch.inner) (L.tag_of
         watch.inner) procs row kept (L.stands watch.inner procs (inners row) known some kept.inner) };
 
     ghost begins = { λ watch procs known some.
-        laws.begins_watched (L.object watch.inner) (L.ways watch.inner) (L.whole watch.inner procs) (L.tag_of
+        laws.begins_watched L.asking (L.object watch.inner) (L.ways watch.inner) (L.whole watch.inner procs) (L.tag_of
         watch.inner) procs (L.begins watch.inner procs known some) };
 
-    ghost imports = { λ watch procs state known some kept. laws.imports_watched (L.ways watch.inner) (L.whole watch.inner procs) (L.serves watch.inner) (L.tag_of watch.inner) procs state some kept
+    ghost imports = { λ watch procs state known some kept. laws.imports_watched L.asking (L.ways watch.inner) (L.whole watch.inner procs) (L.serves watch.inner)
+        (L.tag_of watch.inner) procs state some kept
         (L.imports watch.inner procs state.inner known some kept.inner) (λ parts whole. L.stands watch.inner procs parts known some whole) };
 
     ghost ends = { λ watch state known served. L.ends watch.inner state.inner known served.inner };
 
     ghost admits = { λ watch before state known live same kept. laws.admits_watched (L.serves watch.inner) (L.admitted watch.inner) (L.tag_of watch.inner) watch.layer state kept.small
-        (L.admits watch.inner before.inner state.inner known live (laws.inner_same (L.object before.inner)
+        (L.admits watch.inner before.inner state.inner known live (laws.inner_same L.asking (L.object before.inner)
         (L.object watch.inner) (L.takes_no_seen before.inner) (L.takes_no_seen watch.inner) same) kept.inner) };
 
     ghost swaps = { λ watch state known.
-        laws.swaps_watched (L.object watch.inner) (L.admitted watch.inner) (L.tag_of watch.inner) watch.layer
+        laws.swaps_watched L.asking (L.object watch.inner) (L.admitted watch.inner) (L.tag_of watch.inner) watch.layer
         (L.act_of watch.inner) state (L.keeps_state watch.inner) (L.asks_by_tag watch.inner known) (L.swaps
         watch.inner state.inner known) };
 
     ghost asks = { λ watch. laws.asks_watched (L.tag_of watch.inner) watch.layer (L.act_of watch.inner) (L.asks watch.inner) };
 
     ghost agrees = { λ watch other same tags.
-        laws.agree_watched (L.ways watch.inner) (L.ways other.inner) (L.whole watch.inner) (L.whole
+        laws.agree_watched L.asking (L.ways watch.inner) (L.ways other.inner) (L.whole watch.inner) (L.whole
         other.inner) (L.serves watch.inner) (L.serves other.inner) (L.tag_of watch.inner) (L.tag_of
         other.inner) tags
-        (L.agrees watch.inner other.inner (laws.inner_same (L.object watch.inner) (L.object other.inner) (L.takes_no_seen watch.inner) (L.takes_no_seen other.inner) same) tags) };
+        (L.agrees watch.inner other.inner (laws.inner_same L.asking (L.object watch.inner) (L.object other.inner) (L.takes_no_seen watch.inner) (L.takes_no_seen other.inner) same) tags) };
 }

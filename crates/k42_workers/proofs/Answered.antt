@@ -8,6 +8,8 @@ use Rattle.std.proofs.lemmas.Option.{same_Some}
 use Rattle.k42_places.proofs.Rests.{drop_at}
 use Rattle.gen_core.specs.Events as graces
 use Rattle.phase_core.specs.Stages as swaps
+use Rattle.k42_kinds.specs.declared.operation.Op.{Op}
+use Rattle.k42_kinds.specs.declared.operation.Reply.{Reply}
 use Rattle.k42_kinds.specs.declared.entry.Act.{Act}
 use Rattle.k42_kinds.specs.declared.entry.Act.TheVariants.{Call, Swap}
 use Rattle.script_text.specs.Lawful.{call_lines, deed_of, deeds_from}
@@ -35,12 +37,12 @@ none_there None e = refl
 none_there (Some a) e = cc
 
 -- what a pass that has nothing under way is like
-pub at_rest : (v : PassView SystemPart) → IsAtRest v → IsBetween v × (v.turn.active ≡ None)
+pub at_rest : (v : PassView SystemPart Op Reply) → IsAtRest v → IsBetween v × (v.turn.active ≡ None)
 at_rest v rests =
     let parts = all_three (is_none v.turn.active) (graces.is_idle v.turn.grace) (swaps.is_idle v.visitor.swap) rests in
     (record { grace = parts.1; swap = parts.2 }, none_there v.turn.active parts.0)
 
-pub rests_with : (v : PassView SystemPart) → IsBetween v → v.turn.active ≡ None → IsAtRest v
+pub rests_with : (v : PassView SystemPart Op Reply) → IsBetween v → v.turn.active ≡ None → IsAtRest v
 rests_with v between idle = rw (idle, between.grace, between.swap) refl
 
 length-deeds_from : (n : ℕ) (lines : List CallLine) → length (deeds_from n lines) ≡ length lines
@@ -104,7 +106,7 @@ module _ (system : SystemSeen) (number : ℕ) (worker : WorkerLines) where
     count : length pass.view.taker.mine + length (call_lines (drop place worker.items)) ≡ length (call_lines worker.items)
     count = many_under_way worker place inside (standing_of pass.view) at.way
 
-    pub rests_for : (line : CallLine) (act : Act) → line.act ≡ act → drop place worker.items ≡ Line line ∷ drop (suc place) worker.items → RestsFor act pass.view
+    pub rests_for : (line : CallLine) (act : Act Op) → line.act ≡ act → drop place worker.items ≡ Line line ∷ drop (suc place) worker.items → RestsFor act pass.view
     rests_for line (Call op) is here = tt
     rests_for line (Swap to) is here = rests_with pass.view at.between (at.way.outside (outside inside refl (rw (here, is) at at.way.matches).0)).1
       where

@@ -10,6 +10,8 @@ use Rattle.std.proofs.lemmas.Option.{slice_get-map, slice_get_within, get_or_fro
 use Rattle.std.proofs.Math.ListN.{drop_of_length-le}
 use Rattle.k42_kinds.specs.Histories.{entries_of, unstamped}
 use Rattle.k42_kinds.specs.Legal.{IsLegalHistory}
+use Rattle.k42_kinds.specs.declared.operation.Op.{Op}
+use Rattle.k42_kinds.specs.declared.operation.Reply.{Reply}
 use Rattle.k42_kinds.specs.declared.entry.Entry.{Entry}
 use Rattle.k42_kinds.proofs.Splits.{no_split}
 use Rattle.script_text.specs.Lawful.{call_lines}
@@ -39,11 +41,11 @@ module _ (script : Script) (system : SystemSeen) where
       let home : slice_index homes number ≡ worker.proc = get_or_from_slice_get homes number worker.proc _ (slice_get-map (λ (w : WorkerLines). w.proc) script.workers number ∙ ap (option_map (λ (w : WorkerLines). w.proc)) found) in
       record {
         here = first.here;
-        rests = ap (λ (v : PassView SystemPart). is_at_rest v) first.new;
-        caller = ap (λ (v : PassView SystemPart). v.number) first.new ∙ plain;
-        proc = ap (λ (v : PassView SystemPart). v.turn.proc) first.new ∙ home;
-        entries = ap (λ (v : PassView SystemPart). v.taker.mine) first.new;
-        graces = ap (λ (v : PassView SystemPart). v.graces) first.new;
+        rests = ap (λ (v : PassView SystemPart Op Reply). is_at_rest v) first.new;
+        caller = ap (λ (v : PassView SystemPart Op Reply). v.number) first.new ∙ plain;
+        proc = ap (λ (v : PassView SystemPart Op Reply). v.turn.proc) first.new ∙ home;
+        entries = ap (λ (v : PassView SystemPart Op Reply). v.taker.mine) first.new;
+        graces = ap (λ (v : PassView SystemPart Op Reply). v.graces) first.new;
       }
 
   -- and so they may begin
@@ -93,7 +95,7 @@ module _ (script : Script) (system : SystemSeen) where
   }
 
 -- where nobody has drawn anything
-drawn_by_none : (entries : List Entry) → All (λ entry. entry.caller < 1) entries → map unstamped (entries_of 0 entries) ≡ [] → entries ≡ []
+drawn_by_none : (entries : List (Entry Op Reply)) → All (λ entry. entry.caller < 1) entries → map unstamped (entries_of 0 entries) ≡ [] → entries ≡ []
 drawn_by_none [] callers none = refl
 drawn_by_none (entry ∷ entries) callers none =
     let first : entry.caller < 1 = callers 0 entry (omega arith) in
@@ -106,7 +108,7 @@ module _ (script : Script) (none : list_any asks script.workers ≡ false) where
   no_lines number worker found = has_none worker.items (none_asking script.workers none number worker found)
 
   -- a script in which nobody asks anything has the empty run
-  pub run_of_none : (entries : List Entry) → entries ≡ [] → IsRunOf script entries
+  pub run_of_none : (entries : List (Entry Op Reply)) → entries ≡ [] → IsRunOf script entries
   run_of_none entries empty = subst (IsRunOf script) (sym empty) (record {
     legal = record { numbered = λ before entry after e. absurd (no_split before entry after e); legal = λ before entry after e. absurd (no_split before entry after e) };
     each = λ number worker found. record {
@@ -118,7 +120,7 @@ module _ (script : Script) (none : list_any asks script.workers ≡ false) where
         in_step = λ i j earlier later less there. absurd (none-some earlier there);
       };
     };
-    no_stranger = All-nil (λ (entry : Entry). entry.caller < length script.workers);
+    no_stranger = All-nil (λ (entry : Entry Op Reply). entry.caller < length script.workers);
   })
 
 -- a vector is as a borrow of it was left
@@ -140,8 +142,8 @@ started_at_rest plan system passes started keep = record {
         let first = started.each number pass there in
         record {
           ours = first.here.ours.table;
-          number = ap (λ (v : PassView SystemPart). v.number) first.new;
-          rests = ap (λ (v : PassView SystemPart). is_at_rest v) first.new;
+          number = ap (λ (v : PassView SystemPart Op Reply). v.number) first.new;
+          rests = ap (λ (v : PassView SystemPart Op Reply). is_at_rest v) first.new;
         };
   };
   all = λ number pass there. (started.each number pass there).here.ours.keep ∙ started_keep plan system passes started ∙ keep;
@@ -151,7 +153,7 @@ started_at_rest plan system passes started keep = record {
 pub idle_closed : (system : SystemSeen) (passes : List SystemPass) (history : HistorySeen) → HasStarted idle_plan system passes → IsClosed system.plan (lists_in passes) history → history.entries ≡ []
 idle_closed system passes history started closed =
     let pass = found_at passes 0 (omega (arith, started.many)) in
-    let mine : pass.0.view.taker.mine ≡ [] = ap (λ (v : PassView SystemPart). v.taker.mine) (started.each 0 pass.0 pass.1).new in
+    let mine : pass.0.view.taker.mine ≡ [] = ap (λ (v : PassView SystemPart Op Reply). v.taker.mine) (started.each 0 pass.0 pass.1).new in
     let order = closed.in_order 0 pass.0.view.taker.mine (slice_get-map (λ (p : SystemPass). p.view.taker.mine) passes 0 ∙ ap (option_map (λ (p : SystemPass). p.view.taker.mine)) pass.1) in
     drawn_by_none history.entries
     (λ k d less. omega (arith, closed.no_stranger k d less, ap (λ (plan : plans.PlanSeen). length plan.callers) started.plan_is))

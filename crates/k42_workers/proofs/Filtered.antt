@@ -7,6 +7,8 @@ use Rattle.std.proofs.lemmas.List.Elements.{filter-append}
 use Rattle.std.proofs.lemmas.Option.{slice_get_within, get_or_from_slice_get}
 use Rattle.std.proofs.Math.Seq.{drop-cons}
 use Rattle.k42_kinds.specs.Histories.{entries_of}
+use Rattle.k42_kinds.specs.declared.operation.Op.{Op}
+use Rattle.k42_kinds.specs.declared.operation.Reply.{Reply}
 use Rattle.k42_kinds.specs.declared.entry.Entry.{Entry}
 
 cond-map : {X Y : Type 0} (f : X → Y) (x : X) (xs : List X) (ys : List Y) → ys ≡ map f xs → (passed : Bool) → cond passed (f x ∷ ys) ys ≡ map f (cond passed (x ∷ xs) xs)
@@ -38,5 +40,5 @@ pub All-found : {X : Type 0} (P : X → Type 0) (xs : List X) (n : ℕ) (x : X) 
 All-found P xs n x all found = subst P (get_or_from_slice_get xs n x x found) (all n x (slice_get_within xs n x found))
 
 -- the entries of a caller, where one of them stands between others
-pub entries_of-split : (caller : ℕ) (before : List Entry) (entry : Entry) (after : List Entry) → entry.caller ≡ caller → entries_of caller (before ++ entry ∷ after) ≡ entries_of caller before ++ entry ∷ entries_of caller after
+pub entries_of-split : (caller : ℕ) (before : List (Entry Op Reply)) (entry : Entry Op Reply) (after : List (Entry Op Reply)) → entry.caller ≡ caller → entries_of caller (before ++ entry ∷ after) ≡ entries_of caller before ++ entry ∷ entries_of caller after
 entries_of-split caller before entry after own = filter-append _ before (entry ∷ after) ∙ rw (eq-eqb entry.caller caller own) refl

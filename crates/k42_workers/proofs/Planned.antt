@@ -9,6 +9,7 @@ use Rattle.std.proofs.lemmas.Option.{same_Some, slice_get-map, slice_get_within,
 use Rattle.std.proofs.lemmas.List.Sums.{get_or-le-sum_by}
 use Rattle.std.proofs.lemmas.Simd.{map-map}
 use Rattle.k42_limits.specs.declared.TheConstants.{PROCESSORS, OBJECTS, CALLERS}
+use Rattle.k42_kinds.specs.declared.operation.Op.{Op}
 use Rattle.k42_kinds.specs.declared.entry.Act.{Act}
 use Rattle.k42_kinds.specs.declared.entry.Act.TheVariants.{Call, Swap}
 use Rattle.k42_kinds.specs.declared.operation.KindName.{KindName}
@@ -119,7 +120,7 @@ module _ (script : Script) (sound : IsSound script) where
         of_kind = same_Some line.kind kind (sym (ap (option_map (λ (o : ObjectLine). o.kind)) is) ∙ sym (slice_get-map (λ (o : ObjectLine). o.kind) script.objects object) ∙ there);
       }
 
-  may_ask : (object : ℕ) (kind : KindName) (act : Act) → IsDeclared object kind → IsActOn kind act → MayAsk (plan_of script) object act
+  may_ask : (object : ℕ) (kind : KindName) (act : Act Op) → IsDeclared object kind → IsActOn kind act → MayAsk (plan_of script) object act
   may_ask object kind (Call op) is on = record {
     declaration = is.declaration;
     declares = is.there;

@@ -7,6 +7,8 @@ use Rattle.std.proofs.lemmas.Option.{same_Some, none-some, slice_get_within}
 use Rattle.std.proofs.Math.ListN.{drop_of_length-le}
 use Rattle.std.proofs.Math.Seq.{get_or-append_seam}
 use Rattle.k42_places.proofs.Rests.{drop_at}
+use Rattle.k42_kinds.specs.declared.operation.Op.{Op}
+use Rattle.k42_kinds.specs.declared.operation.Reply.{Reply}
 use Rattle.k42_kinds.specs.declared.entry.Act.{Act}
 use Rattle.k42_kinds.specs.declared.entry.Act.TheVariants.{Call, Swap}
 use Rattle.k42_kinds.specs.declared.entry.Entry.{Entry}
@@ -23,7 +25,7 @@ use Rattle.k42_workers.specs.UnderWay.{IsUnderWay, block_at}
 use Rattle.k42_workers.specs.Workers.{IsMadeBy, StayInStep, HasDoneLines}
 
 -- the entry at a place after one more was put behind the others
-at_last_or_before : (entries : List Entry) (entry : Entry) (i : ℕ) (found : Entry) → slice_get (entries ++ entry ∷ []) i ≡ Some found → (slice_get entries i ≡ Some found) ⊎ ((i ≡ length entries) × (found ≡ entry))
+at_last_or_before : (entries : List (Entry Op Reply)) (entry : Entry Op Reply) (i : ℕ) (found : Entry Op Reply) → slice_get (entries ++ entry ∷ []) i ≡ Some found → (slice_get entries i ≡ Some found) ⊎ ((i ≡ length entries) × (found ≡ entry))
 at_last_or_before [] entry zero found there = inr (refl, sym (same_Some entry found there))
 at_last_or_before [] entry (suc i) found there = cc
 at_last_or_before (first ∷ entries) entry zero found there = inl there
@@ -46,7 +48,7 @@ module _ (worker : WorkerLines) where
   pub under_way_at_start : BlocksMatch false worker.items false → (standing : Standing) → standing.entries ≡ [] → standing.active ≡ None → IsUnderWay worker 0 false standing
   under_way_at_start matches standing none idle =
       let few : length standing.entries ≡ 0 = ap length none in
-      let nothing : (i : ℕ) (entry : Entry) → slice_get standing.entries i ≡ Some entry → ⊥ = λ i entry there. omega (arith, few, slice_get_within standing.entries i entry there) in
+      let nothing : (i : ℕ) (entry : Entry Op Reply) → slice_get standing.entries i ≡ Some entry → ⊥ = λ i entry there. omega (arith, few, slice_get_within standing.entries i entry there) in
       record {
         deeds = rw none refl;
         made = rw none (All-nil (IsMadeBy worker));
@@ -130,7 +132,7 @@ module _ (worker : WorkerLines) where
 
     -- and in the activity of its block
     levelled : (active : Option ℕ) → old.active ≡ active → (generation : ℕ) → GoesOn active old.entries generation → way.block ≢ 0
-        → (i : ℕ) (entry : Entry) (g : ℕ) → slice_get old.entries i ≡ Some entry → block_at worker i ≡ way.block → entry.generation ≡ Some g → g ≡ generation
+        → (i : ℕ) (entry : Entry Op Reply) (g : ℕ) → slice_get old.entries i ≡ Some entry → block_at worker i ≡ way.block → entry.generation ≡ Some g → g ≡ generation
     levelled (Some a) now_active generation on some i entry g there same drawn = sym (same_Some a g (sym now_active ∙ way.level some i entry g there same drawn)) ∙ sym on
     levelled None now_active generation on some i entry g there same drawn = absurd (none-some g (sym now_active ∙ way.level some i entry g there same drawn))
 
@@ -140,14 +142,14 @@ module _ (worker : WorkerLines) where
     stays false is some = absurd (some (way.outside is).0)
 
     -- what follows of when an act was made
-    record IsPlaced (entry : Entry) (after : Option ℕ) : Type 0 where
+    record IsPlaced (entry : Entry Op Reply) (after : Option ℕ) : Type 0 where
       generation : HasGeneration entry.act entry.generation
       risen_to : (g : ℕ) → entry.generation ≡ Some g → IsLatest g old.entries
-      level_to : (g : ℕ) → entry.generation ≡ Some g → way.block ≢ 0 → (i : ℕ) (other : Entry) (f : ℕ) → slice_get old.entries i ≡ Some other → block_at worker i ≡ way.block → other.generation ≡ Some f → f ≡ g
+      level_to : (g : ℕ) → entry.generation ≡ Some g → way.block ≢ 0 → (i : ℕ) (other : Entry Op Reply) (f : ℕ) → slice_get old.entries i ≡ Some other → block_at worker i ≡ way.block → other.generation ≡ Some f → f ≡ g
       left : inside ≡ false → after ≡ None
       open_in : (a : ℕ) → after ≡ Some a → entry.generation ≡ Some a
       stays_open : way.block ≢ 0 → (f : ℕ) → entry.generation ≡ Some f → after ≡ Some f
-      was_open : way.block ≢ 0 → (i : ℕ) (other : Entry) (f : ℕ) → slice_get old.entries i ≡ Some other → block_at worker i ≡ way.block → other.generation ≡ Some f → after ≡ Some f
+      was_open : way.block ≢ 0 → (i : ℕ) (other : Entry Op Reply) (f : ℕ) → slice_get old.entries i ≡ Some other → block_at worker i ≡ way.block → other.generation ≡ Some f → after ≡ Some f
 
     shut : (b : Bool) → inside ≡ b → (g : ℕ) → inside ≡ false → left_open b g ≡ None
     shut true is g out = let no : true ≡ false = sym is ∙ out in cc
@@ -157,7 +159,7 @@ module _ (worker : WorkerLines) where
     open_as true g a now_active = same_Some g a now_active
     open_as false g a now_active = absurd (none-some a now_active)
 
-    placed_call : (entry : Entry) (after : Option ℕ) → HasGeneration entry.act entry.generation → IsTimedCall inside old entry.generation after → IsPlaced entry after
+    placed_call : (entry : Entry Op Reply) (after : Option ℕ) → HasGeneration entry.act entry.generation → IsTimedCall inside old entry.generation after → IsPlaced entry after
     placed_call entry after has timed =
         let now = timed.generation in
         let is : (g : ℕ) → entry.generation ≡ Some g → now ≡ g = λ g drawn. same_Some now g (sym timed.drawn_in ∙ drawn) in
@@ -173,7 +175,7 @@ module _ (worker : WorkerLines) where
           was_open = λ some i other f there same before. now_active some ∙ ap Some (sym (level some i other f there same before));
         }
 
-    placed_alone : (entry : Entry) (after : Option ℕ) → HasGeneration entry.act entry.generation → (inside ≡ true → ⊥) → entry.generation ≡ None → after ≡ None → IsPlaced entry after
+    placed_alone : (entry : Entry Op Reply) (after : Option ℕ) → HasGeneration entry.act entry.generation → (inside ≡ true → ⊥) → entry.generation ≡ None → after ≡ None → IsPlaced entry after
     placed_alone entry after has out none shut_after =
         let never : way.block ≢ 0 → ⊥ = λ some. out (stays inside refl some) in
         record {
@@ -186,7 +188,7 @@ module _ (worker : WorkerLines) where
           was_open = λ some. absurd (never some);
         }
 
-    placed : (act : Act) (entry : Entry) (after : Option ℕ) → entry.act ≡ act → (inside ≡ true → IsCall act) → IsTimed act inside old entry.generation after → IsPlaced entry after
+    placed : (act : Act Op) (entry : Entry Op Reply) (after : Option ℕ) → entry.act ≡ act → (inside ≡ true → IsCall act) → IsTimed act inside old entry.generation after → IsPlaced entry after
     placed (Call op) entry after is call timed = placed_call entry after (rw (is, timed.drawn_in) refl) timed
     placed (Swap to) entry after is call timed = placed_alone entry after (rw (is, timed.drawn_in) refl) call timed.drawn_in timed.left
 
@@ -205,7 +207,7 @@ module _ (worker : WorkerLines) where
         let rest = call_lines (drop (suc place) worker.items) in
         let before : map deed_of old.entries ++ record { index = length old.entries; object = line.object; act = line.act } ∷ deeds_from (length old.entries + 1) rest ≡ deeds_from 0 (call_lines worker.items) = rw here at way.deeds in
         let count : length new.entries ≡ length old.entries + 1 = ap length answers.drawn ∙ length_push old.entries entry in
-        ap (λ (all : List Entry). map deed_of all ++ deeds_from (length new.entries) rest) answers.drawn
+        ap (λ (all : List (Entry Op Reply)). map deed_of all ++ deeds_from (length new.entries) rest) answers.drawn
         ∙ ap (λ (n : ℕ). map deed_of (old.entries ++ entry ∷ []) ++ deeds_from n rest) count
         ∙ ap (λ (all : List Deed). all ++ deeds_from (length old.entries + 1) rest) (map-append deed_of old.entries (entry ∷ []))
         ∙ append_assoc (map deed_of old.entries) (deed_of entry ∷ []) (deeds_from (length old.entries + 1) rest)
@@ -214,13 +216,13 @@ module _ (worker : WorkerLines) where
 
     -- the new entry is in step with an earlier one
     step_here : (line : CallLine) (new : Standing) → (answers : AnswersLine line worker.proc inside old new) → drop place worker.items ≡ Line line ∷ drop (suc place) worker.items
-        → (i j : ℕ) (first last : Entry) (former generation : ℕ) → slice_get old.entries i ≡ Some first → j ≡ length old.entries → last ≡ answers.entry → first.generation ≡ Some former → last.generation ≡ Some generation
+        → (i j : ℕ) (first last : Entry Op Reply) (former generation : ℕ) → slice_get old.entries i ≡ Some first → j ≡ length old.entries → last ≡ answers.entry → first.generation ≡ Some former → last.generation ≡ Some generation
         → AreInStep (block_at worker i) (block_at worker j) former generation
     step_here line new answers here i j first last former generation there at is was drawn =
         let entry = answers.entry in
         let matches : BlocksMatch inside (Line line ∷ drop (suc place) worker.items) false = rw here at way.matches in
         let fits = placed line.act entry new.active (ap (λ (deed : Deed). deed.act) answers.deed) matches.0 answers.timed in
-        let own : entry.generation ≡ Some generation = sym (ap (λ (e : Entry). e.generation) is) ∙ drawn in
+        let own : entry.generation ≡ Some generation = sym (ap (λ (e : Entry Op Reply). e.generation) is) ∙ drawn in
         let block : block_at worker j ≡ way.block = ap (block_at worker) at ∙ block_next line here in
         record {
           risen = fits.risen_to generation own i first there former was;
@@ -238,7 +240,7 @@ module _ (worker : WorkerLines) where
         let blocks : blocks_of worker.items ≡ way.done ++ way.block ∷ blocks_from way.begun way.block rest = rw here at way.blocks in
         let block_here = block_next line here in
         let count : length new.entries ≡ length old.entries + 1 = ap length answers.drawn ∙ length_push old.entries entry in
-        let found : (i : ℕ) (one : Entry) → slice_get new.entries i ≡ Some one → (slice_get old.entries i ≡ Some one) ⊎ ((i ≡ length old.entries) × (one ≡ entry)) = λ i one there. at_last_or_before old.entries entry i one (rw answers.drawn at there) in
+        let found : (i : ℕ) (one : Entry Op Reply) → slice_get new.entries i ≡ Some one → (slice_get old.entries i ≡ Some one) ⊎ ((i ≡ length old.entries) × (one ≡ entry)) = λ i one there. at_last_or_before old.entries entry i one (rw answers.drawn at there) in
         record {
           deeds = deeds_after line new answers here;
           made = rw answers.drawn (All-push (IsMadeBy worker) old.entries entry way.made (record { processor = answers.processor; kept = answers.kept; generation = fits.generation }));
@@ -266,11 +268,11 @@ module _ (worker : WorkerLines) where
           ];
           latest = λ a now_active i one there g drawn. elim (found i one there) [
             | inl before ↦ fits.risen_to a (fits.open_in a now_active) i one before g drawn
-            | inr late ↦ omega (arith, same_Some g a (sym drawn ∙ ap (λ (e : Entry). e.generation) late.1 ∙ fits.open_in a now_active))
+            | inr late ↦ omega (arith, same_Some g a (sym drawn ∙ ap (λ (e : Entry Op Reply). e.generation) late.1 ∙ fits.open_in a now_active))
           ];
           level = λ some i one g there same drawn. elim (found i one there) [
             | inl before ↦ fits.was_open some i one g before same drawn
-            | inr late ↦ fits.stays_open some g (sym (ap (λ (e : Entry). e.generation) late.1) ∙ drawn)
+            | inr late ↦ fits.stays_open some g (sym (ap (λ (e : Entry Op Reply). e.generation) late.1) ∙ drawn)
           ];
         }
 

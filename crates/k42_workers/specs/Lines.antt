@@ -1,6 +1,8 @@
 -- What a worker's items do to its entries and its activity.
 use Rattle.std.specs.Prelude.{◌≡◌, ℕ, ◌≤◌, Bool, true, false, if◌then◌else◌, List, [], ◌∷◌, ◌++◌, length, Option, Some, None}
 use Rattle.k42_places.specs.Places.{EachPlace}
+use Rattle.k42_kinds.specs.declared.operation.Op.{Op}
+use Rattle.k42_kinds.specs.declared.operation.Reply.{Reply}
 use Rattle.k42_kinds.specs.declared.entry.Act.{Act}
 use Rattle.k42_kinds.specs.declared.entry.Act.TheVariants.{Call, Swap}
 use Rattle.k42_kinds.specs.declared.entry.Entry.{Entry}
@@ -11,15 +13,15 @@ use Rattle.script_text.specs.declared.script.Item.TheVariants.{Begin, End, Line}
 
 -- what a worker has between two items: its entries, and the generation of the activity that is open
 pub record Standing : Type 0 where
-  pub entries : List Entry
+  pub entries : List (Entry Op Reply)
   pub active : Option ℕ
 
 -- no entry is of a later generation
-abbrev pub IsLatest : ℕ → List Entry → Type 0
+abbrev pub IsLatest : ℕ → List (Entry Op Reply) → Type 0
 IsLatest generation entries = EachPlace (λ place entry. (drawn : ℕ) → entry.generation ≡ Some drawn → drawn ≤ generation) entries
 
 -- A call is made in the activity that is open; where none is, in a new one, whose generation is not below that of any entry.
-abbrev pub GoesOn : Option ℕ → List Entry → ℕ → Type 0
+abbrev pub GoesOn : Option ℕ → List (Entry Op Reply) → ℕ → Type 0
 GoesOn (Some present) entries generation = generation ≡ present
 GoesOn None entries generation = IsLatest generation entries
 
@@ -39,13 +41,13 @@ pub record IsUntimed (drawn after : Option ℕ) : Type 0 where
   pub drawn_in : drawn ≡ None
   pub left : after ≡ None
 
-abbrev pub IsTimed : Act → Bool → Standing → Option ℕ → Option ℕ → Type 0
+abbrev pub IsTimed : Act Op → Bool → Standing → Option ℕ → Option ℕ → Type 0
 IsTimed (Call op) inside old drawn after = IsTimedCall inside old drawn after
 IsTimed (Swap to) inside old drawn after = IsUntimed drawn after
 
 -- there is one entry more, that of the line
 pub record AnswersLine (line : CallLine) (proc : ℕ) (inside : Bool) (old new : Standing) : Type 0 where
-  pub entry : Entry
+  pub entry : Entry Op Reply
   pub drawn : new.entries ≡ old.entries ++ entry ∷ []
   pub deed : deed_of entry ≡ record { index = length old.entries; object = line.object; act = line.act }
   pub processor : entry.proc ≡ proc
@@ -66,8 +68,8 @@ pub record IsOpened (old new : Standing) : Type 0 where
   pub entries : new.entries ≡ old.entries
 
 -- there is one entry more, which was made in this generation, or in none
-pub record IsMade (object : ℕ) (act : Act) (proc : ℕ) (generation : Option ℕ) (old new : Standing) : Type 0 where
-  pub entry : Entry
+pub record IsMade (object : ℕ) (act : Act Op) (proc : ℕ) (generation : Option ℕ) (old new : Standing) : Type 0 where
+  pub entry : Entry Op Reply
   pub drawn : new.entries ≡ old.entries ++ entry ∷ []
   pub deed : deed_of entry ≡ record { index = length old.entries; object = object; act = act }
   pub processor : entry.proc ≡ proc

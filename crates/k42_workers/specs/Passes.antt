@@ -3,6 +3,8 @@ use Rattle.std.specs.Prelude.{◌≡◌, ℕ, ◌+◌, ◌<◌, ◌≤◌, true,
 use Rattle.gen_core.specs.Events as graces
 use Rattle.k42_limits.specs.declared.TheConstants.{CALLERS, CALL_LINES, PASS_ENTRIES, PASS_GRACES}
 use Rattle.k42_places.specs.Places.{EachPair}
+use Rattle.k42_kinds.specs.declared.operation.Op.{Op}
+use Rattle.k42_kinds.specs.declared.operation.Reply.{Reply}
 use Rattle.k42_kinds.specs.declared.entry.Act.{Act}
 use Rattle.k42_kinds.specs.declared.entry.Act.TheVariants.{Call, Swap}
 use Rattle.phase_core.specs.Stages as swaps
@@ -23,7 +25,7 @@ use Rattle.k42_workers.specs.Lines.{Standing}
 use Rattle.k42_workers.specs.Workers.{HasDoneLines}
 
 -- the act may be asked of the object
-abbrev pub MayAsk : PlanSeen → ℕ → Act → Type 0
+abbrev pub MayAsk : PlanSeen → ℕ → Act Op → Type 0
 MayAsk plan object (Call op) = IsAsked plan object op
 MayAsk plan object (Swap to) = object < length plan.objects
 
@@ -36,54 +38,54 @@ pub record IsReady (plan : PlanSeen) (worker : WorkerLines) : Type 0 where
   pub few : length (call_lines worker.items) ≤ CALL_LINES
   pub matches : BlocksMatch false worker.items false
 
-abbrev pub standing_of : {P : Type 0} → PassView P → Standing
+abbrev pub standing_of : {P : Type 0} → PassView P Op Reply → Standing
 standing_of v = record { entries = v.taker.mine; active = v.turn.active }
 
 -- no grace and no swap is under way
-pub record IsBetween {P : Type 0} (v : PassView P) : Type 0 where
+pub record IsBetween {P : Type 0} (v : PassView P Op Reply) : Type 0 where
   pub grace : graces.is_idle v.turn.grace ≡ true
   pub swap : swaps.is_idle v.visitor.swap ≡ true
 
 -- there is room for one entry and one grace more
-pub record HasFew {P : Type 0} (v : PassView P) : Type 0 where
+pub record HasFew {P : Type 0} (v : PassView P Op Reply) : Type 0 where
   pub entries : length v.taker.mine < PASS_ENTRIES
   pub graces : v.graces < PASS_GRACES
 
 -- the same caller on its processor, with at most one grace more
-pub record GoesOnAs {P : Type 0} (old new : PassView P) : Type 0 where
+pub record GoesOnAs {P : Type 0} (old new : PassView P Op Reply) : Type 0 where
   pub number : new.number ≡ old.number
   pub proc : new.turn.proc ≡ old.turn.proc
   pub graces : new.graces ≤ old.graces + 1
 
 -- and with none more
-pub record StaysAs {P : Type 0} (old new : PassView P) : Type 0 where
+pub record StaysAs {P : Type 0} (old new : PassView P Op Reply) : Type 0 where
   pub number : new.number ≡ old.number
   pub proc : new.turn.proc ≡ old.turn.proc
   pub graces : new.graces ≡ old.graces
 
 -- it has taken the step into an activity, and no other
-abbrev pub HasOnlyEntered : {P : Type 0} → PassView P → PassView P → Type 0
+abbrev pub HasOnlyEntered : {P : Type 0} → PassView P Op Reply → PassView P Op Reply → Type 0
 HasOnlyEntered old new =
     new.log ≡ step_at steps.Enter (generation_word old.turn.proc) (last_found new.log) ∷ old.log
 
 -- a swap is made between two activities
-abbrev pub RestsFor : {P : Type 0} → Act → PassView P → Type 0
+abbrev pub RestsFor : {P : Type 0} → Act Op → PassView P Op Reply → Type 0
 RestsFor (Call op) v = ⊤
 RestsFor (Swap to) v = IsAtRest v
 
 -- the line may be answered now
-pub record MayAnswer {P : Type 0} (plan : PlanSeen) (line : CallLine) (v : PassView P) : Type 0 where
+pub record MayAnswer {P : Type 0} (plan : PlanSeen) (line : CallLine) (v : PassView P Op Reply) : Type 0 where
   pub asked : MayAskLine plan line
   pub rests : RestsFor line.act v
   pub few : HasFew v
 
-abbrev pub MayFollow : {P : Type 0} → PlanSeen → Item → PassView P → Type 0
+abbrev pub MayFollow : {P : Type 0} → PlanSeen → Item → PassView P Op Reply → Type 0
 MayFollow plan Begin v = ⊤
 MayFollow plan End v = ⊤
 MayFollow plan (Line line) v = MayAnswer plan line v
 
 -- only a line may need a grace more
-abbrev pub GoesOnBy : {P : Type 0} → Item → PassView P → PassView P → Type 0
+abbrev pub GoesOnBy : {P : Type 0} → Item → PassView P Op Reply → PassView P Op Reply → Type 0
 GoesOnBy Begin old new = StaysAs old new
 GoesOnBy End old new = StaysAs old new
 GoesOnBy (Line line) old new = GoesOnAs old new

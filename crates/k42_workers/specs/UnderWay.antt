@@ -1,5 +1,7 @@
 -- A worker on its way through its items.
 use Rattle.std.specs.Prelude.{◌≡◌, ◌≢◌, ℕ, ◌+◌, ◌<◌, ◌≤◌, Bool, false, List, ◌++◌, length, map, drop, All, Some, None, slice_get, slice_index_or}
+use Rattle.k42_kinds.specs.declared.operation.Op.{Op}
+use Rattle.k42_kinds.specs.declared.operation.Reply.{Reply}
 use Rattle.k42_kinds.specs.declared.entry.Entry.{Entry}
 use Rattle.script_text.specs.Lawful.{call_lines, deed_of, deeds_from}
 use Rattle.script_text.specs.Sound.{BlocksMatch}
@@ -35,7 +37,7 @@ pub record IsUnderWay (worker : WorkerLines) (place : ℕ) (inside : Bool) (stan
   pub latest : (generation : ℕ) → standing.active ≡ Some generation → IsLatest generation standing.entries
   pub level :
       block ≢ 0
-      → (i : ℕ) (entry : Entry) (generation : ℕ) → slice_get standing.entries i ≡ Some entry → block_at worker i ≡ block
+      → (i : ℕ) (entry : Entry Op Reply) (generation : ℕ) → slice_get standing.entries i ≡ Some entry → block_at worker i ≡ block
       → entry.generation ≡ Some generation
       → standing.active ≡ Some generation
 

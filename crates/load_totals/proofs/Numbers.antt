@@ -11,6 +11,8 @@ use Rattle.std.proofs.lemmas.List.FromFn.{length-range_with_len}
 use Rattle.k42_limits.specs.declared.TheConstants.{PAGES}
 use Rattle.k42_kinds.specs.Histories.{is_call}
 use Rattle.k42_kinds.specs.Pages.{dirty_count}
+use Rattle.k42_kinds.specs.declared.operation.Op.{Op}
+use Rattle.k42_kinds.specs.declared.operation.Reply.{Reply}
 use Rattle.k42_kinds.specs.declared.entry.Act.{Act}
 use Rattle.k42_kinds.specs.declared.entry.Entry.{Entry}
 use Rattle.script_text.specs.Generated.{drawn, value_at, generated}
@@ -98,11 +100,11 @@ module _ (n : ℕ) where
       opposite false true one = refl
       opposite false false one = absurd (omega (arith, one))
 
-module _ (n : ℕ) (small : n ≤ 10000) (history : List Entry) (lawful : IsLawful (generated n) history) where
+module _ (n : ℕ) (small : n ≤ 10000) (history : List (Entry Op Reply)) (lawful : IsLawful (generated n) history) where
   -- an act of the history that passes a test is that of a step
-  any_step : (p : Act → Bool) → list_any (λ (entry : Entry). p entry.act) history ≡ list_any (λ k. p (act_at n k)) (steps n)
+  any_step : (p : Act Op → Bool) → list_any (λ (entry : Entry Op Reply). p entry.act) history ≡ list_any (λ k. p (act_at n k)) (steps n)
   any_step p =
-      any_by_count (λ (entry : Entry). p entry.act) history ∙ ap (ltb 0) (sum_over_steps n history lawful (λ act. mark (p act)))
+      any_by_count (λ (entry : Entry Op Reply). p entry.act) history ∙ ap (ltb 0) (sum_over_steps n history lawful (λ act. mark (p act)))
       ∙ sym (any_by_count (λ k. p (act_at n k)) (steps n))
 
   module _ (all : ℕ) (are : all ≡ PAGES) where
@@ -115,7 +117,7 @@ module _ (n : ℕ) (small : n ≤ 10000) (history : List Entry) (lawful : IsLawf
     swaps_are : (tallied history).swaps ≡ swaps_due n
     swaps_are =
         counted.swaps
-        ∙ count_by_alike is_done (λ (entry : Entry). not (is_call entry.act)) history (each_is_done n small history lawful)
+        ∙ count_by_alike is_done (λ (entry : Entry Op Reply). not (is_call entry.act)) history (each_is_done n small history lawful)
         ∙ sum_over_steps n history lawful (λ act. mark (not (is_call act)))
         ∙ sum_by_same (λ k. mark (not (is_call (act_at n k)))) (λ k. mark (is_swap k)) (swap_marks n) (steps n)
 

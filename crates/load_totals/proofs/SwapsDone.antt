@@ -10,6 +10,7 @@ use Rattle.k42_kinds.specs.Histories.{is_call, is_carried_out, is_carried_out_on
 use Rattle.k42_kinds.specs.Legal.{Settles, IsRival, IsAlive, IsLegalAct, IsLegalAnswer}
 use Rattle.k42_kinds.specs.Objects.{state_after, is_dead, empty_state}
 use Rattle.k42_kinds.specs.Watched.{watched_object}
+use Rattle.k42_kinds.specs.declared.operation.Reply.{Reply}
 use Rattle.k42_kinds.specs.declared.entry.Act.{Act}
 use Rattle.k42_kinds.specs.declared.entry.Act.TheVariants.{Call, Swap}
 use Rattle.k42_kinds.specs.declared.entry.Answer.{Answer}
@@ -31,7 +32,7 @@ use Rattle.load_totals.specs.Loads.{is_swap}
 use Rattle.load_totals.proofs.StepActs.{name_of, asked, IsStepOf, length_is, each_is_step}
 
 -- a worker adds, binds one of a hundred names or writes a page; worker 0 swaps too
-pub data Asks (worker : ℕ) (act : Act) : Type 0 where
+pub data Asks (worker : ℕ) (act : Act Op) : Type 0 where
   Adds : (amount : ℕ) → act ≡ Call (Add amount) → Asks worker act
   Binds : (name number : ℕ) → name < 100 → act ≡ Call (Bind (name_of name) number) → Asks worker act
   Writes : (page : ℕ) (text : List ℕ) → page < PAGES → act ≡ Call (Write page text) → Asks worker act
@@ -51,7 +52,7 @@ swap_is_first k is =
     ⊎_elim (λ front. ⊎_elim (of_fours k 0 refl) (of_fours k 252 refl) (or_cases (k % 1000 == 0) (k % 1000 == 252) front)) (of_fours k 500 refl)
     (or_cases (k % 1000 == 0 || k % 1000 == 252) (k % 1000 == 500) is)
 
-asks_at : (n worker : ℕ) (act : Act) → IsStepOf n worker act → Asks worker act
+asks_at : (n worker : ℕ) (act : Act Op) → IsStepOf n worker act → Asks worker act
 asks_at n worker act is =
     let k = is.step in
     subst₂ Asks is.own (sym is.same) (asks_by_turn (k % 4) k (value_at n k) (is_swap k) (k / 4 % 3 == 0) (k / 4 % 3 == 1) (swap_is_first k))
@@ -85,13 +86,13 @@ alive_after (states.Directory names) op alive = refl
 alive_after (states.Pages pages) op alive = refl
 alive_after states.Dead op alive = alive
 
-alive_moved : (kind : KindName) (state : WatchState AnyState) (worker : ℕ) (act : Act) (answer : Answer) → Asks worker act → is_dead state.inner ≡ false → is_dead (state_after_act kind state act answer).inner ≡ false
+alive_moved : (kind : KindName) (state : WatchState AnyState) (worker : ℕ) (act : Act Op) (answer : Answer Reply) → Asks worker act → is_dead state.inner ≡ false → is_dead (state_after_act kind state act answer).inner ≡ false
 alive_moved kind state worker act answer (Adds amount is) alive = rw is (alive_after state.inner (Add amount) alive)
 alive_moved kind state worker act answer (Binds name number less is) alive = rw is (alive_after state.inner (Bind (name_of name) number) alive)
 alive_moved kind state worker act answer (Writes page text less is) alive = rw is (alive_after state.inner (Write page text) alive)
 alive_moved kind state worker act answer (Swaps layout first is) alive = rw is (cond_both (is_carried_out answer) ((watched_object kind).swapped state (Layout layout)) state (λ moved. is_dead moved.inner ≡ false) (λ done. alive) (λ other. alive))
 
-alive_in : (kind : KindName) (object : ℕ) (state : WatchState AnyState) (entries : List Entry) → AllByRecursion (λ (entry : Entry). Asks entry.caller entry.act) entries → is_dead state.inner ≡ false → is_dead (fold (moved_by kind object) state entries).inner ≡ false
+alive_in : (kind : KindName) (object : ℕ) (state : WatchState AnyState) (entries : List (Entry Op Reply)) → AllByRecursion (λ (entry : Entry Op Reply). Asks entry.caller entry.act) entries → is_dead state.inner ≡ false → is_dead (fold (moved_by kind object) state entries).inner ≡ false
 alive_in kind object state [] asks alive = alive
 alive_in kind object state (entry ∷ entries) asks alive =
     alive_in kind object (moved_by kind object state entry) entries asks.1
@@ -103,17 +104,17 @@ starts_alive Directory = refl
 starts_alive Pages = refl
 
 -- of two callers' swaps one is worker 0's, and a call is no rival
-abbrev NoRival : Entry → Type 0
+abbrev NoRival : Entry Op Reply → Type 0
 NoRival entry = (entry.caller ≡ 0) ⊎ ((number : ℕ) → Settles number entry.answer → ⊥)
 
-no_rival_by : (kind : KindName) (before : List Entry) (entry : Entry) (after : List Entry) → IsLegalAct kind before entry after entry.act → Asks entry.caller entry.act → NoRival entry
+no_rival_by : (kind : KindName) (before : List (Entry Op Reply)) (entry : Entry Op Reply) (after : List (Entry Op Reply)) → IsLegalAct kind before entry after entry.act → Asks entry.caller entry.act → NoRival entry
 no_rival_by kind before entry after legal (Adds amount is) = let call = rw is at legal in inr (λ number settles. subst (Settles number) call.replied settles)
 no_rival_by kind before entry after legal (Binds name bound less is) = let call = rw is at legal in inr (λ number settles. subst (Settles number) call.replied settles)
 no_rival_by kind before entry after legal (Writes page text less is) = let call = rw is at legal in inr (λ number settles. subst (Settles number) call.replied settles)
 no_rival_by kind before entry after legal (Swaps layout first is) = inl first
 
 -- the answer to a swap, where its object is alive and has incarnations left, and no other's swap is in its way
-carried_out : (kind : KindName) (before : List Entry) (entry : Entry) (after : List Entry) (answer : Answer)
+carried_out : (kind : KindName) (before : List (Entry Op Reply)) (entry : Entry Op Reply) (after : List (Entry Op Reply)) (answer : Answer Reply)
     → IsLegalAnswer kind before entry after answer → IsNotGivenUp answer
     → IsAlive kind entry.object before → number_of entry.object before < LAST_INCARNATION
     → ((number : ℕ) → Any (IsRival entry number) (before ++ after) → ⊥)
@@ -126,45 +127,45 @@ carried_out kind before entry after (Abandoned number) legal kept alive few riva
 carried_out kind before entry after (Replied reply) legal kept alive few rivals = absurd legal
 
 -- whether the entry tells of a swap that was carried out
-abbrev pub is_done : Entry → Bool
+abbrev pub is_done : Entry Op Reply → Bool
 is_done entry = cond (is_call entry.act) false (is_carried_out entry.answer)
 
-module _ (n : ℕ) (small : n ≤ 10000) (history : List Entry) (lawful : IsLawful (generated n) history) where
-  pub asks : AllByRecursion (λ (entry : Entry). Asks entry.caller entry.act) history
-  asks = each_then (λ (entry : Entry). IsStepOf n entry.caller entry.act) (λ (entry : Entry). Asks entry.caller entry.act) (λ entry is. asks_at n entry.caller entry.act is) history (each_is_step n history lawful)
+module _ (n : ℕ) (small : n ≤ 10000) (history : List (Entry Op Reply)) (lawful : IsLawful (generated n) history) where
+  pub asks : AllByRecursion (λ (entry : Entry Op Reply). Asks entry.caller entry.act) history
+  asks = each_then (λ (entry : Entry Op Reply). IsStepOf n entry.caller entry.act) (λ (entry : Entry Op Reply). Asks entry.caller entry.act) (λ entry is. asks_at n entry.caller entry.act is) history (each_is_step n history lawful)
 
-  asks_in : (before : List Entry) (entry : Entry) (after : List Entry) → history ≡ before ++ entry ∷ after → AllByRecursion (λ (other : Entry). Asks other.caller other.act) (before ++ entry ∷ after)
-  asks_in before entry after split = subst (AllByRecursion (λ (other : Entry). Asks other.caller other.act)) split asks
+  asks_in : (before : List (Entry Op Reply)) (entry : Entry Op Reply) (after : List (Entry Op Reply)) → history ≡ before ++ entry ∷ after → AllByRecursion (λ (other : Entry Op Reply). Asks other.caller other.act) (before ++ entry ∷ after)
+  asks_in before entry after split = subst (AllByRecursion (λ (other : Entry Op Reply). Asks other.caller other.act)) split asks
 
   no_rivals : AllByRecursion NoRival history
   no_rivals = from_splits NoRival history (λ before entry after split.
       no_rival_by (lawful.legal.legal before entry after split).kind before entry after (lawful.legal.legal before entry after split).legal
-      (there (λ (other : Entry). Asks other.caller other.act) before entry after (asks_in before entry after split)))
+      (there (λ (other : Entry Op Reply). Asks other.caller other.act) before entry after (asks_in before entry after split)))
 
-  few_before : (object : ℕ) (before : List Entry) (entry : Entry) (after : List Entry) → history ≡ before ++ entry ∷ after → number_of object before < LAST_INCARNATION
+  few_before : (object : ℕ) (before : List (Entry Op Reply)) (entry : Entry Op Reply) (after : List (Entry Op Reply)) → history ≡ before ++ entry ∷ after → number_of object before < LAST_INCARNATION
   few_before object before entry after split =
       omega (arith, small, length_is n history lawful, ap length split, length-append before (entry ∷ after), count_by-le-length (is_carried_out_on object) before)
 
-  rivals : (number : ℕ) (before : List Entry) (entry : Entry) (after : List Entry) → entry.caller ≡ 0 → history ≡ before ++ entry ∷ after → Any (IsRival entry number) (before ++ after) → ⊥
+  rivals : (number : ℕ) (before : List (Entry Op Reply)) (entry : Entry Op Reply) (after : List (Entry Op Reply)) → entry.caller ≡ 0 → history ≡ before ++ entry ∷ after → Any (IsRival entry number) (before ++ after) → ⊥
   rivals number before entry after first split =
       none-Any (IsRival entry number) (before ++ after)
       (each_then NoRival (λ other. IsRival entry number other → ⊥)
       (λ other no rival. ⊎_elim (λ also. rival.caller (also ∙ sym first)) (λ none. none number rival.settles) no)
       (before ++ after) (others NoRival before entry after (subst (AllByRecursion NoRival) split no_rivals)))
 
-  done_by : (before : List Entry) (entry : Entry) (after : List Entry) → history ≡ before ++ entry ∷ after → (kind : KindName) → IsLegalAct kind before entry after entry.act → Asks entry.caller entry.act → is_done entry ≡ not (is_call entry.act)
+  done_by : (before : List (Entry Op Reply)) (entry : Entry Op Reply) (after : List (Entry Op Reply)) → history ≡ before ++ entry ∷ after → (kind : KindName) → IsLegalAct kind before entry after entry.act → Asks entry.caller entry.act → is_done entry ≡ not (is_call entry.act)
   done_by before entry after split kind legal (Adds amount is) = rw is refl
   done_by before entry after split kind legal (Binds name number less is) = rw is refl
   done_by before entry after split kind legal (Writes page text less is) = rw is refl
   done_by before entry after split kind legal (Swaps layout first is) =
       rw is (carried_out kind before entry after entry.answer (subst (IsLegalAct kind before entry after) is legal)
-      (All-at_split (λ (other : Entry). IsNotGivenUp other.answer) history lawful.none_given_up before entry after split)
-      (alive_in kind entry.object (watched_object kind).start before (front (λ (other : Entry). Asks other.caller other.act) before (entry ∷ after) (asks_in before entry after split)) (starts_alive kind))
+      (All-at_split (λ (other : Entry Op Reply). IsNotGivenUp other.answer) history lawful.none_given_up before entry after split)
+      (alive_in kind entry.object (watched_object kind).start before (front (λ (other : Entry Op Reply). Asks other.caller other.act) before (entry ∷ after) (asks_in before entry after split)) (starts_alive kind))
       (few_before entry.object before entry after split)
       (λ number. rivals number before entry after first split))
 
   -- each entry that is no call is a swap that was carried out
-  pub each_is_done : AllByRecursion (λ (entry : Entry). is_done entry ≡ not (is_call entry.act)) history
-  each_is_done = from_splits (λ (entry : Entry). is_done entry ≡ not (is_call entry.act)) history (λ before entry after split.
+  pub each_is_done : AllByRecursion (λ (entry : Entry Op Reply). is_done entry ≡ not (is_call entry.act)) history
+  each_is_done = from_splits (λ (entry : Entry Op Reply). is_done entry ≡ not (is_call entry.act)) history (λ before entry after split.
       done_by before entry after split (lawful.legal.legal before entry after split).kind (lawful.legal.legal before entry after split).legal
-      (there (λ (other : Entry). Asks other.caller other.act) before entry after (asks_in before entry after split)))
+      (there (λ (other : Entry Op Reply). Asks other.caller other.act) before entry after (asks_in before entry after split)))

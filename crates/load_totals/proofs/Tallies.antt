@@ -14,6 +14,7 @@ use Rattle.k42_kinds.specs.Histories.{is_call, is_carried_out}
 use Rattle.k42_kinds.specs.Objects.{Directory, Pages, counter_after, directory_after, pages_after}
 use Rattle.k42_kinds.specs.Operations.{kind_of_op}
 use Rattle.k42_kinds.specs.Pages.{dirty_count}
+use Rattle.k42_kinds.specs.declared.operation.Reply.{Reply}
 use Rattle.k42_kinds.specs.declared.entry.Act.{Act}
 use Rattle.k42_kinds.specs.declared.entry.Act.TheVariants.{Call, Swap}
 use Rattle.k42_kinds.specs.declared.entry.To.{To}
@@ -34,15 +35,15 @@ use Rattle.load_totals.proofs.StepActs.{name_of}
 use Rattle.load_totals.proofs.SwapsDone.{Asks, Adds, Binds, Writes, Swaps, is_done}
 
 -- what an act adds to the counter, and whether it binds this name or writes this page
-abbrev pub amount_of : Act → ℕ
+abbrev pub amount_of : Act Op → ℕ
 amount_of (Call (Add amount)) = amount
 amount_of _ = 0
 
-abbrev pub binds_name : ℕ → Act → Bool
+abbrev pub binds_name : ℕ → Act Op → Bool
 binds_name name (Call (Bind key number)) = bytes_eq key (name_of name)
 binds_name name _ = false
 
-abbrev pub writes_page : ℕ → Act → Bool
+abbrev pub writes_page : ℕ → Act Op → Bool
 writes_page page (Call (Write other text)) = eqb other page
 writes_page page _ = false
 
@@ -51,7 +52,7 @@ abbrev hits_called : Option KindName → ℕ → Op → ℕ
 hits_called (Some kinds.Counter) hits op = counter_after hits op
 hits_called _ hits op = hits
 
-abbrev hits_after : ℕ → Act → ℕ
+abbrev hits_after : ℕ → Act Op → ℕ
 hits_after hits (Call op) = hits_called (kind_of_op op) hits op
 hits_after hits _ = hits
 
@@ -59,7 +60,7 @@ abbrev names_called : Option KindName → Directory → Op → Directory
 names_called (Some kinds.Directory) names op = directory_after names op
 names_called _ names op = names
 
-abbrev names_after : Directory → Act → Directory
+abbrev names_after : Directory → Act Op → Directory
 names_after names (Call op) = names_called (kind_of_op op) names op
 names_after names _ = names
 
@@ -67,12 +68,12 @@ abbrev cache_called : Option KindName → Pages → Op → Pages
 cache_called (Some kinds.Pages) pages op = pages_after pages op
 cache_called _ pages op = pages
 
-abbrev cache_after : Pages → Act → Pages
+abbrev cache_after : Pages → Act Op → Pages
 cache_after pages (Call op) = cache_called (kind_of_op op) pages op
 cache_after pages _ = pages
 
 -- each number of the tally goes its own way
-record Parts (old new : Tally) (act : Act) (done : Bool) : Type 0 where
+record Parts (old new : Tally) (act : Act Op) (done : Bool) : Type 0 where
   calls : new.calls ≡ old.calls + mark (is_call act)
   swaps : new.swaps ≡ old.swaps + mark done
   hits : new.hits ≡ hits_after old.hits act
@@ -89,12 +90,12 @@ swapped_parts : (done : Bool) (tally : Tally) (to : To) → Parts tally (if done
 swapped_parts true tally to = record { calls = omega arith; swaps = refl; hits = refl; names = refl; cache = refl }
 swapped_parts false tally to = record { calls = omega arith; swaps = omega arith; hits = refl; names = refl; cache = refl }
 
-parts : (tally : Tally) (act : Act) (answer : Answer) → Parts tally (tally_after tally act answer) act (cond (is_call act) false (is_carried_out answer))
+parts : (tally : Tally) (act : Act Op) (answer : Answer Reply) → Parts tally (tally_after tally act answer) act (cond (is_call act) false (is_carried_out answer))
 parts tally (Call op) answer = called_parts (kind_of_op op) tally op refl
 parts tally (Swap to) answer = swapped_parts (is_carried_out answer) tally to
 
 -- the counter
-hits_are : (worker hits sum : ℕ) (act : Act) → Asks worker act → hits ≡ sum % 2 ^ 64 → hits_after hits act ≡ (sum + amount_of act) % 2 ^ 64
+hits_are : (worker hits sum : ℕ) (act : Act Op) → Asks worker act → hits ≡ sum % 2 ^ 64 → hits_after hits act ≡ (sum + amount_of act) % 2 ^ 64
 hits_are worker hits sum act (Adds amount is) so_far = rw is (omega (arith, so_far))
 hits_are worker hits sum act (Binds name number less is) so_far = rw is (omega (arith, so_far))
 hits_are worker hits sum act (Writes page text less is) so_far = rw is (omega (arith, so_far))
@@ -135,7 +136,7 @@ bound_at names other number name None false there is small less =
     ∙ or_false (is_bound names name)
 
 -- the directory
-bound_are : (worker : ℕ) (names : Directory) (act : Act) → Asks worker act → (name : ℕ) → name < 100 → is_bound (names_after names act) name ≡ (is_bound names name || binds_name name act)
+bound_are : (worker : ℕ) (names : Directory) (act : Act Op) → Asks worker act → (name : ℕ) → name < 100 → is_bound (names_after names act) name ≡ (is_bound names name || binds_name name act)
 bound_are worker names act (Adds amount is) name less = rw is (or_false (is_bound names name))
 bound_are worker names act (Binds other number small is) name less =
     rw is (bound_at names other number name (finite.get names (name_of other)) (eqb other name) refl refl small less ∙ ap (λ b. is_bound names name || b) (sym (name_test other name (eqb other name) refl small less)))
@@ -149,7 +150,7 @@ size_by : (names : Directory) (key : List ℕ) (number : ℕ) (found : Option �
 size_by names key number (Some held) there = ap finite.len (bind_bound names key number held there).0
 size_by names key number None there = size_bind names key number there
 
-names_are : (worker : ℕ) (names : Directory) (act : Act) → Asks worker act → finite.len names ≡ count_bound names → finite.len (names_after names act) ≡ count_bound (names_after names act)
+names_are : (worker : ℕ) (names : Directory) (act : Act Op) → Asks worker act → finite.len names ≡ count_bound names → finite.len (names_after names act) ≡ count_bound (names_after names act)
 names_are worker names act (Adds amount is) so_far = rw is so_far
 names_are worker names act (Binds other number small is) so_far =
     rw is (size_by names (name_of other) number (finite.get names (name_of other)) refl
@@ -170,7 +171,7 @@ marked_at pages other page text false is =
     ap is_dirty ((write pages other text).elsewhere page (λ alike. eqb-false other page is (sym alike))) ∙ or_false (is_marked pages page)
 
 -- the pages
-marked_are : (worker : ℕ) (pages : Pages) (act : Act) → Asks worker act → (page : ℕ) → is_marked (cache_after pages act) page ≡ (is_marked pages page || writes_page page act)
+marked_are : (worker : ℕ) (pages : Pages) (act : Act Op) → Asks worker act → (page : ℕ) → is_marked (cache_after pages act) page ≡ (is_marked pages page || writes_page page act)
 marked_are worker pages act (Adds amount is) page = rw is (or_false (is_marked pages page))
 marked_are worker pages act (Binds name number small is) page = rw is (or_false (is_marked pages page))
 marked_are worker pages act (Writes other text small is) page = rw is (marked_at pages other page text (eqb other page) refl)
@@ -180,7 +181,7 @@ marked_are worker pages act (Swaps layout first is) page = rw is (or_false (is_m
 abbrev pub count_marked : ℕ → Pages → ℕ
 count_marked all pages = count_by (is_marked pages) (range_with_len 0 all)
 
-cache_is : (worker all : ℕ) → all ≡ PAGES → (pages : Pages) (act : Act) → Asks worker act → dirty_count pages ≡ count_marked all pages → dirty_count (cache_after pages act) ≡ count_marked all (cache_after pages act)
+cache_is : (worker all : ℕ) → all ≡ PAGES → (pages : Pages) (act : Act Op) → Asks worker act → dirty_count pages ≡ count_marked all pages → dirty_count (cache_after pages act) ≡ count_marked all (cache_after pages act)
 cache_is worker all are pages act (Adds amount is) so_far = rw is so_far
 cache_is worker all are pages act (Binds name number small is) so_far = rw is so_far
 cache_is worker all are pages act (Writes other text small is) so_far =
@@ -190,13 +191,13 @@ cache_is worker all are pages act (Writes other text small is) so_far =
 cache_is worker all are pages act (Swaps layout first is) so_far = rw is so_far
 
 -- what is known of the tally of these entries
-pub record IsTallyOf (all : ℕ) (tally : Tally) (entries : List Entry) : Type 0 where
-  pub calls : tally.calls ≡ count_by (λ (entry : Entry). is_call entry.act) entries
+pub record IsTallyOf (all : ℕ) (tally : Tally) (entries : List (Entry Op Reply)) : Type 0 where
+  pub calls : tally.calls ≡ count_by (λ (entry : Entry Op Reply). is_call entry.act) entries
   pub swaps : tally.swaps ≡ count_by is_done entries
-  pub hits : tally.hits ≡ sum_by (λ (entry : Entry). amount_of entry.act) entries % 2 ^ 64
-  pub bound : (name : ℕ) → name < 100 → is_bound tally.names name ≡ list_any (λ (entry : Entry). binds_name name entry.act) entries
+  pub hits : tally.hits ≡ sum_by (λ (entry : Entry Op Reply). amount_of entry.act) entries % 2 ^ 64
+  pub bound : (name : ℕ) → name < 100 → is_bound tally.names name ≡ list_any (λ (entry : Entry Op Reply). binds_name name entry.act) entries
   pub names : finite.len tally.names ≡ count_bound tally.names
-  pub marked : (page : ℕ) → is_marked tally.cache page ≡ list_any (λ (entry : Entry). writes_page page entry.act) entries
+  pub marked : (page : ℕ) → is_marked tally.cache page ≡ list_any (λ (entry : Entry Op Reply). writes_page page entry.act) entries
   pub dirty : dirty_count tally.cache ≡ count_marked all tally.cache
 
 any_push : {X : Type 0} (p : X → Bool) (xs : List X) (x : X) → (list_any p xs || p x) ≡ list_any p (xs ++ x ∷ [])
@@ -226,25 +227,25 @@ module _ (all : ℕ) (are : all ≡ PAGES) where
         ∙ sym (count_over_range (is_marked finite.empty) (λ page. false) 0 all (λ page low high. unmarked page) ∙ none_of (range_with_len 0 all));
   }
 
-  one_more : (tally new : Tally) (entries : List Entry) (entry : Entry) → IsTallyOf all tally entries → Asks entry.caller entry.act → Parts tally new entry.act (is_done entry) → IsTallyOf all new (entries ++ entry ∷ [])
+  one_more : (tally new : Tally) (entries : List (Entry Op Reply)) (entry : Entry Op Reply) → IsTallyOf all tally entries → Asks entry.caller entry.act → Parts tally new entry.act (is_done entry) → IsTallyOf all new (entries ++ entry ∷ [])
   one_more tally new entries entry so_far asks own = record {
-    calls = omega (arith, own.calls, so_far.calls, sum_by_push (λ (other : Entry). mark (is_call other.act)) entries entry);
-    swaps = omega (arith, own.swaps, so_far.swaps, sum_by_push (λ (other : Entry). mark (is_done other)) entries entry);
+    calls = omega (arith, own.calls, so_far.calls, sum_by_push (λ (other : Entry Op Reply). mark (is_call other.act)) entries entry);
+    swaps = omega (arith, own.swaps, so_far.swaps, sum_by_push (λ (other : Entry Op Reply). mark (is_done other)) entries entry);
     hits =
-        own.hits ∙ hits_are entry.caller tally.hits (sum_by (λ (other : Entry). amount_of other.act) entries) entry.act asks so_far.hits
-        ∙ ap (λ sum. sum % 2 ^ 64) (sym (sum_by_push (λ (other : Entry). amount_of other.act) entries entry));
+        own.hits ∙ hits_are entry.caller tally.hits (sum_by (λ (other : Entry Op Reply). amount_of other.act) entries) entry.act asks so_far.hits
+        ∙ ap (λ sum. sum % 2 ^ 64) (sym (sum_by_push (λ (other : Entry Op Reply). amount_of other.act) entries entry));
     bound = λ name less.
         ap (λ names. is_bound names name) own.names ∙ bound_are entry.caller tally.names entry.act asks name less
-        ∙ ap (λ b. b || binds_name name entry.act) (so_far.bound name less) ∙ any_push (λ (other : Entry). binds_name name other.act) entries entry;
+        ∙ ap (λ b. b || binds_name name entry.act) (so_far.bound name less) ∙ any_push (λ (other : Entry Op Reply). binds_name name other.act) entries entry;
     names = subst (λ names. finite.len names ≡ count_bound names) (sym own.names) (names_are entry.caller tally.names entry.act asks so_far.names);
     marked = λ page.
         ap (λ pages. is_marked pages page) own.cache ∙ marked_are entry.caller tally.cache entry.act asks page
-        ∙ ap (λ b. b || writes_page page entry.act) (so_far.marked page) ∙ any_push (λ (other : Entry). writes_page page other.act) entries entry;
+        ∙ ap (λ b. b || writes_page page entry.act) (so_far.marked page) ∙ any_push (λ (other : Entry Op Reply). writes_page page other.act) entries entry;
     dirty = subst (λ pages. dirty_count pages ≡ count_marked all pages) (sym own.cache) (cache_is entry.caller all are tally.cache entry.act asks so_far.dirty);
   }
 
   -- the tally of all entries, one after the other
-  pub all_more : (tally : Tally) (done rest : List Entry) → IsTallyOf all tally done → AllByRecursion (λ (entry : Entry). Asks entry.caller entry.act) rest → IsTallyOf all (fold tally_with tally rest) (done ++ rest)
+  pub all_more : (tally : Tally) (done rest : List (Entry Op Reply)) → IsTallyOf all tally done → AllByRecursion (λ (entry : Entry Op Reply). Asks entry.caller entry.act) rest → IsTallyOf all (fold tally_with tally rest) (done ++ rest)
   all_more tally done [] so_far asks = subst (IsTallyOf all tally) (sym (append-nil done)) so_far
   all_more tally done (entry ∷ rest) so_far asks =
       subst (IsTallyOf all (fold tally_with (tally_with tally entry) rest)) (append_assoc done (entry ∷ []) rest)

@@ -7,6 +7,7 @@ use Rattle.k42_kinds.specs.Histories.{is_carried_out}
 use Rattle.k42_kinds.specs.Objects.{counter_after, directory_after, pages_after}
 use Rattle.k42_kinds.specs.Operations.{kind_of_op}
 use Rattle.k42_kinds.specs.Pages.{dirty_count}
+use Rattle.k42_kinds.specs.declared.operation.Reply.{Reply}
 use Rattle.k42_kinds.specs.declared.entry.Act.{Act}
 use Rattle.k42_kinds.specs.declared.entry.Act.TheVariants.{Call, Swap}
 use Rattle.k42_kinds.specs.declared.entry.Answer.{Answer}
@@ -62,17 +63,17 @@ called_by (Some kinds.Directory) tally op = record tally { names = directory_aft
 called_by (Some kinds.Pages) tally op = record tally { cache = pages_after tally.cache op; calls = tally.calls + 1 }
 called_by None tally op = record tally { calls = tally.calls + 1 }
 
-abbrev pub tally_after : Tally → Act → Answer → Tally
+abbrev pub tally_after : Tally → Act Op → Answer Reply → Tally
 tally_after tally (Call op) answer = called_by (kind_of_op op) tally op
 tally_after tally (Swap to) answer = if is_carried_out answer then record tally { swaps = tally.swaps + 1 } else tally
 
-abbrev pub tally_with : Tally → Entry → Tally
+abbrev pub tally_with : Tally → Entry Op Reply → Tally
 tally_with tally entry = tally_after tally entry.act entry.answer
 
 abbrev pub no_tally : Tally
 no_tally = record { calls = 0; swaps = 0; hits = 0; names = finite.empty; cache = finite.empty }
 
-abbrev pub tallied : List Entry → Tally
+abbrev pub tallied : List (Entry Op Reply) → Tally
 tallied entries = fold tally_with no_tally entries
 
 -- the counter's value, how many names are bound and how many pages are dirty, and what was counted

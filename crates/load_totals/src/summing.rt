@@ -8,7 +8,7 @@ ghost use Rattle.load_totals.specs.Loads as loads;
 use crate::totals::Summary;
 use k42_entries::Entries;
 use k42_kinds::{
-    Act, Answer, DirectoryState, Entry, KindName, Op, PagesState, kind_of, step_counter,
+    Act, Answer, DirectoryState, Entry, KindName, Op, PagesState, Reply, kind_of, step_counter,
     step_directory, step_pages,
 };
 use k42_memory::Memory;
@@ -59,7 +59,7 @@ impl Tally {
         Ok(())
     }
 
-    fn add(&mut self, entry: &Entry) -> Result<(), Memory>
+    fn add(&mut self, entry: &Entry<Op, Reply>) -> Result<(), Memory>
         requires { self.old.calls + self.old.swaps < 2 ^ 32 - 1 }
         ensures tally { OnOk result (self.new ≡ loads.tally_with self.old entry.now) }
         ensures few { OnOk result (self.new.calls + self.new.swaps ≤ self.old.calls + self.old.swaps + 1) }
@@ -88,7 +88,7 @@ impl Tally {
     }
 }
 
-fn tallied<E: Entries + Drop>(alloc: Global, mut entries: E) -> Result<Tally, Memory>
+fn tallied<E: Entries<Op, Reply> + Drop>(alloc: Global, mut entries: E) -> Result<Tally, Memory>
     requires { length (E.left entries) < 2 ^ 32 }
     ensures { IfOk result (λ tally. tally ≡ loads.tallied (E.left entries)) }
 {
@@ -100,7 +100,7 @@ fn tallied<E: Entries + Drop>(alloc: Global, mut entries: E) -> Result<Tally, Me
 }
 
 /// What the entries of the lawful history of a generated script come to. One is held at a time.
-pub fn sum_up<E: Entries + Drop>(
+pub fn sum_up<E: Entries<Op, Reply> + Drop>(
     alloc: Global,
     script: &Script,
     entries: E,
@@ -117,7 +117,11 @@ pub fn sum_up<E: Entries + Drop>(
 }
 
 /// What the lawful history of a generated script comes to.
-pub fn summary(alloc: Global, script: &Script, entries: &Vec<Entry>) -> Result<Summary, Memory>
+pub fn summary(
+    alloc: Global,
+    script: &Script,
+    entries: &Vec<Entry<Op, Reply>>,
+) -> Result<Summary, Memory>
     requires generated { (n : ℕ) × (n ≤ 10000) × (script.now ≡ generated n) }
     requires lawful { IsLawful script.now entries.now.items }
     ensures exact { IfOk result (λ summary. summary ≡ loads.summary_of (loads.tallied entries.now.items)) }

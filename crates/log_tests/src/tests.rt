@@ -10,7 +10,13 @@ use std::alloc::Global;
 use std::test::Fail;
 
 /// An entry of caller 15 on processor 7, at the last object and cell that there are.
-fn entry_of(stamp: u64, index: u64, generation: Option<u32>, act: &Act, answer: &Answer) -> Entry
+fn entry_of(
+    stamp: u64,
+    index: u64,
+    generation: Option<u32>,
+    act: &Act<Op>,
+    answer: &Answer<Reply>,
+) -> Entry<Op, Reply>
     ensures { result ≡ record {
       stamp = stamp;
       index = index;
@@ -39,7 +45,7 @@ fn entry_of(stamp: u64, index: u64, generation: Option<u32>, act: &Act, answer: 
 }
 
 /// A log of these calls. Their stamps are even.
-fn log_of(alloc: Global, calls: &[(Op, Reply)]) -> Result<Log, Memory>
+fn log_of(alloc: Global, calls: &[(Op, Reply)]) -> Result<Log<Op, Reply>, Memory>
     requires { length calls.now < 100 }
 {
     let mut log = Log::new(alloc, 15, 7, 0);
@@ -103,7 +109,12 @@ fn a_call_of_every_kind_is_read_back(rt: HostRuntime) -> Result<(), Fail> {
 }
 
 /// Adds a swap. Its stamp is odd.
-fn push_swap(log: &mut Log, index: u64, to: To, answer: Answer) -> Result<(), Memory>
+fn push_swap(
+    log: &mut Log<Op, Reply>,
+    index: u64,
+    to: To,
+    answer: Answer<Reply>,
+) -> Result<(), Memory>
     requires owner { log.old.owner ≡ record { caller = 15; proc = 7 } }
     requires next { index ≡ next_index log.old }
     requires few { index < 100 }

@@ -10,7 +10,7 @@ use Rattle.k42_board.specs.declared.view.PassView.{PassView}
 use Rattle.table_crews.proofs.OneCell.{served_inside}
 
 -- a pass that holds no cell may lock it
-pub may_lock_first : {P : Type 0} (procs n : ℕ) (v : PassView P) (inside : Inside) → v.turn.proc < procs → is_served v.visitor.place ≡ true → v.taker.held ≡ []
+pub may_lock_first : {P O R : Type 0} (procs n : ℕ) (v : PassView P O R) (inside : Inside) → v.turn.proc < procs → is_served v.visitor.place ≡ true → v.taker.held ≡ []
     → inside ≡ inside_in v → inside.object < 16 → n ≡ (inside.object * 2 + inside.incarnation % 2) * 8 → MayLock procs n v
 may_lock_first procs n v inside home served held is few e = record {
   cell = omega (arith, few, e);

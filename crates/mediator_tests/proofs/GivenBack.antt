@@ -13,13 +13,13 @@ use Rattle.k42_board.specs.declared.view.StepName.TheVariants as steps
 use Rattle.table_crews.specs.Ready.{HoldsNoCell}
 
 -- the pass is where it was, and holds no cell
-pub record HasLeft {P : Type 0} (v w : PassView P) : Type 0 where
+pub record HasLeft {P O R : Type 0} (v w : PassView P O R) : Type 0 where
   pub turn : w.turn ≡ v.turn
   pub visitor : w.visitor ≡ v.visitor
   pub held : w.taker.held ≡ []
   pub notes : w.notes ≡ []
 
-pub free_left : {L P : Type 0} (sys : SysSeen L) (old new : PassSeen P) → IsPassOf sys old → new.table ≡ old.table → new.queue ≡ old.queue → new.keep ≡ old.keep → HasLeft old.view new.view
+pub free_left : {L P O R : Type 0} (sys : SysSeen L) (old new : PassSeen P O R) → IsPassOf sys old → new.table ≡ old.table → new.queue ≡ old.queue → new.keep ≡ old.keep → HasLeft old.view new.view
     → HoldsNoCell sys new
 free_left sys old new ours table queue keep left = record {
   ours = record {
@@ -35,12 +35,12 @@ free_left sys old new ours table queue keep left = record {
   notes = left.notes;
 }
 
-pub left_lock : {P : Type 0} (n : ℕ) (v y : PassView P) → y ≡ took steps.Unlock (lock_word n) 0 (unlocked_view n v) → v.taker.held ≡ n ∷ [] → v.notes ≡ [] → HasLeft v y
+pub left_lock : {P O R : Type 0} (n : ℕ) (v y : PassView P O R) → y ≡ took steps.Unlock (lock_word n) 0 (unlocked_view n v) → v.taker.held ≡ n ∷ [] → v.notes ≡ [] → HasLeft v y
 left_lock n v y leaves held none = record {
-  turn = ap (λ (z : PassView _). z.turn) leaves;
-  visitor = ap (λ (z : PassView _). z.visitor) leaves;
+  turn = ap (λ (z : PassView _ _ _). z.turn) leaves;
+  visitor = ap (λ (z : PassView _ _ _). z.visitor) leaves;
   held =
-      ap (λ (z : PassView _). z.taker.held) leaves ∙ ap (λ ns. filter (λ m. not (eqb m n)) ns) held
+      ap (λ (z : PassView _ _ _). z.taker.held) leaves ∙ ap (λ ns. filter (λ m. not (eqb m n)) ns) held
       ∙ ap (λ b. cond (not b) (n ∷ []) []) (eq-eqb n n refl);
-  notes = ap (λ (z : PassView _). z.notes) leaves ∙ none;
+  notes = ap (λ (z : PassView _ _ _). z.notes) leaves ∙ none;
 }

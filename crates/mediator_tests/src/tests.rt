@@ -5,7 +5,7 @@ use crate::tests::calls::{end, end_activity, find_busy, keep_out, let_in, look, 
 use crate::tests::crews::{finish, start};
 use crate::tests::phases::{close, give_up, move_now, send_to_mediator, try_early, wait_quiet};
 use co_any::AnyLayout;
-use k42_kinds::{Act, Answer, Entry, KindName, LayoutName, To};
+use k42_kinds::{Act, Answer, Entry, KindName, LayoutName, Op, Reply, To};
 use k42_mediator::Phase;
 use k42_rule::{Pass, Sys};
 use std::process::Abort;
@@ -47,7 +47,7 @@ fn meet(
 }
 
 /// Whether the entry tells that the first swap of the first object was given up.
-fn is_given_up(entry: &Entry) -> bool {
+fn is_given_up(entry: &Entry<Op, Reply>) -> bool {
     entry.object == 0
         && entry.incarnation == 0
         && entry.act == Act::Swap(To::Layout(LayoutName::Spread))

@@ -8,7 +8,7 @@ ghost use Rattle.std.specs.Thread.{IsSync};
 ghost use Rattle.table_crews.specs.Ready.{HoldsNoCell};
 
 use co_any::AnyLayout;
-use k42_kinds::{Entry, LayoutName};
+use k42_kinds::{Entry, LayoutName, Op, Reply};
 use k42_limits::PASS_GRACES;
 use k42_quiesce::{Grace, GraceStep, Held, collect, enter, grace, hand_over, leave, reclaim};
 use k42_rule::Sys;
@@ -43,7 +43,7 @@ fn finish(
     zero: Walk,
     one: Walk,
     two: Walk,
-) -> Vec<Vec<Entry>>
+) -> Vec<Vec<Entry<Op, Reply>>>
     requires callers { length sys.callers ≡ 3 }
     requires free { HoldsNoCell sys zero × HoldsNoCell sys one × HoldsNoCell sys two }
 {

@@ -38,7 +38,7 @@ reply_mark-blank (replies.Text text) = refl
 reply_mark-blank replies.Zero = refl
 reply_mark-blank replies.Gone = refl
 
-answer_mark-blank : (answer : Answer) → answer_mark answer ≡ answer_mark (blank_answer answer)
+answer_mark-blank : (answer : Answer Reply) → answer_mark answer ≡ answer_mark (blank_answer answer)
 answer_mark-blank (Replied reply) = reply_mark-blank reply
 answer_mark-blank (Swapped number) = refl
 answer_mark-blank (Busy number) = refl
@@ -75,7 +75,7 @@ swap_line-blank : (script : Script) (column : ℕ) (line : RecordLine) (number :
 unfolding swap_line swap_name swap_number
 swap_line-blank script column line number = simp (markup-append, markup-worded, length-map script.workers blank_worker) refl
 
-swap_answered-blank : (script : Script) (column : ℕ) (line : RecordLine) (answer : Answer) → markup (swap_answered script column line answer) ≡ markup (swap_answered (blank_script script) column (blank_line line) (blank_answer answer))
+swap_answered-blank : (script : Script) (column : ℕ) (line : RecordLine) (answer : Answer Reply) → markup (swap_answered script column line answer) ≡ markup (swap_answered (blank_script script) column (blank_line line) (blank_answer answer))
 swap_answered-blank script column line (Replied reply) = refl
 swap_answered-blank script column line (Swapped number) = swap_line-blank script column line number
 swap_answered-blank script column line (Busy number) = refl

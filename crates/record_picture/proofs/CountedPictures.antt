@@ -7,6 +7,7 @@ use Rattle.std.proofs.lemmas.Bool.{and_parts, cases_Bool}
 use Rattle.std.proofs.lemmas.Bool.Decides.{nat_tests}
 use Rattle.std.proofs.lemmas.List.{append_assoc}
 use Rattle.std.proofs.lemmas.List.Sums.{sum_by-cons}
+use Rattle.k42_kinds.specs.declared.operation.Reply.{Reply}
 use Rattle.k42_kinds.specs.declared.entry.Answer.{Answer}
 use Rattle.k42_kinds.specs.declared.entry.Answer.TheVariants.{Replied, Swapped, Busy, Spent, Gone, Abandoned}
 use Rattle.script_text.specs.declared.script.Script.{Script}
@@ -114,7 +115,7 @@ boxes-counted script before lines rest =
     counted count_boxes (box_text script before) (λ line. 1) (λ column line rest. box-skipped boxes-skip script before column line rest (λ n. 1 + n) one_box) 0 lines rest
     ∙ ap (λ n. n + count_boxes rest) (sum_by-one lines)
 
-swap-boxless : (script : Script) (column : ℕ) (line : RecordLine) (answer : Answer) (rest : List ℕ) → count_boxes (swap_answered script column line answer ++ rest) ≡ count_boxes rest
+swap-boxless : (script : Script) (column : ℕ) (line : RecordLine) (answer : Answer Reply) (rest : List ℕ) → count_boxes (swap_answered script column line answer ++ rest) ≡ count_boxes rest
 swap-boxless script column line (Replied reply) rest = refl
 swap-boxless script column line (Swapped number) rest = swap_line-skipped boxes-skip script column line number rest (λ n. n) no_box
 swap-boxless script column line (Busy number) rest = refl
@@ -164,7 +165,7 @@ no_line : (text : List ℕ) → count_lines (codes "<use href='#box'/>" ++ text)
 unfolding count_lines
 no_line text = missed (codes "<path class='s'") (codes "<use href='#box'/>") text refl
 
-swap-counted : (script : Script) (column : ℕ) (line : RecordLine) (answer : Answer) (rest : List ℕ) → count_lines (swap_answered script column line answer ++ rest) ≡ cond (histories.is_carried_out answer) 1 0 + count_lines rest
+swap-counted : (script : Script) (column : ℕ) (line : RecordLine) (answer : Answer Reply) (rest : List ℕ) → count_lines (swap_answered script column line answer ++ rest) ≡ cond (histories.is_carried_out answer) 1 0 + count_lines rest
 swap-counted script column line (Replied reply) rest = omega arith
 swap-counted script column line (Swapped number) rest = swap_line-skipped lines-skip script column line number rest (λ n. 1 + n) one_line
 swap-counted script column line (Busy number) rest = omega arith

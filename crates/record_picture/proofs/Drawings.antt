@@ -1,7 +1,9 @@
 -- Which calls are framed together, and what is cut, as the check computes it: accepted and refused.
 use Rattle.std.proofs.Common.{◌≡◌, ℕ, true, false, [], ◌∷◌, ◌++◌, refl}
 use Rattle.std.specs.Prelude.{codes, Some, None}
+use Rattle.k42_kinds.specs.declared.operation.Op.{Op}
 use Rattle.k42_kinds.specs.declared.operation.Op.TheVariants.{Get}
+use Rattle.k42_kinds.specs.declared.operation.Reply.{Reply}
 use Rattle.k42_kinds.specs.declared.operation.Reply.TheVariants.{Number}
 use Rattle.k42_kinds.specs.declared.operation.LayoutName.TheVariants.{Spread}
 use Rattle.k42_kinds.specs.declared.entry.Act.{Act}
@@ -18,7 +20,7 @@ use Rattle.record_picture.specs.Frames.{frame, frames_from}
 use Rattle.record_picture.specs.Pieces.{cut_to}
 use Rattle.record_picture.specs.Swaps.{swap_text, swap_line}
 
-abbrev asks : Act → Item
+abbrev asks : Act Op → Item
 asks act = Line (record { line = 4; object = 0; act = act })
 
 -- of a block's calls the later ones go on with its activity, and a line behind the block does not
@@ -49,7 +51,7 @@ apart = refl
 from_before : frames_from 0 (true ∷ []) 0 0 (called 1 ∷ called 0 ∷ []) ≡ frame 0 0 1 ++ []
 from_before = refl
 
-abbrev swapping : Answer → RecordLine
+abbrev swapping : Answer Reply → RecordLine
 swapping answer = record {
   stamp = 1;
   worker = 0;

@@ -7,6 +7,7 @@ use Rattle.std.proofs.lemmas.Bool.Decides.{nat_tests}
 use Rattle.std.proofs.lemmas.List.{append_assoc, append-nil}
 use Rattle.std.proofs.lemmas.Option.{slice_get_past}
 use Rattle.script_text.specs.declared.script.Script.{Script}
+use Rattle.k42_kinds.specs.declared.operation.Reply.{Reply}
 use Rattle.k42_kinds.specs.declared.entry.Answer.{Answer}
 use Rattle.k42_kinds.specs.declared.entry.Answer.TheVariants.{Replied, Swapped, Busy, Spent, Gone, Abandoned}
 use Rattle.record_text.specs.Rules.{rule_number, rule_of_answer}
@@ -141,7 +142,7 @@ unmarked lanes before lines line rule elsewhere = elim (cases_Bool (nat_le (befo
 
 -- ---- the words
 
-pub words-answer : (answer : Answer) → rule_words (rule_number (rule_of_answer answer)) ≡ codes ", " ++ answer_meaning answer
+pub words-answer : (answer : Answer Reply) → rule_words (rule_number (rule_of_answer answer)) ≡ codes ", " ++ answer_meaning answer
 words-answer (Replied reply) = refl
 words-answer (Swapped number) = refl
 words-answer (Busy number) = refl

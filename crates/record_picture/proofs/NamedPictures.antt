@@ -6,6 +6,7 @@ use Rattle.std.specs.Fmt.{decimal, digit_glyph}
 use Rattle.std.proofs.lemmas.Bool.{and_parts}
 use Rattle.std.proofs.lemmas.Bool.Decides.{nat_tests}
 use Rattle.std.proofs.lemmas.List.{append_assoc}
+use Rattle.k42_kinds.specs.declared.operation.Reply.{Reply}
 use Rattle.k42_kinds.specs.declared.entry.Answer.{Answer}
 use Rattle.k42_kinds.specs.declared.entry.Answer.TheVariants.{Replied, Swapped, Busy, Spent, Gone, Abandoned}
 use Rattle.script_text.specs.declared.script.Script.{Script}
@@ -48,7 +49,7 @@ names-skips = record {
 boxes-names : (script : Script) (before : ℕ) (lines : List RecordLine) (rest : List ℕ) → names_entities (boxes script before lines ++ rest) ≡ names_entities rest
 boxes-names script before lines rest = skips-placed (box_text script before) (λ column line rest. box-skipped names-skips script before column line rest (λ is. is) (λ text. refl)) 0 lines rest
 
-swap-names : (script : Script) (column : ℕ) (line : RecordLine) (answer : Answer) (rest : List ℕ) → names_entities (swap_answered script column line answer ++ rest) ≡ names_entities rest
+swap-names : (script : Script) (column : ℕ) (line : RecordLine) (answer : Answer Reply) (rest : List ℕ) → names_entities (swap_answered script column line answer ++ rest) ≡ names_entities rest
 swap-names script column line (Replied reply) rest = refl
 swap-names script column line (Swapped number) rest = swap_line-skipped names-skips script column line number rest (λ is. is) (λ text. refl)
 swap-names script column line (Busy number) rest = refl

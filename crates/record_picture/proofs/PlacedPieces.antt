@@ -4,6 +4,7 @@ use Rattle.std.specs.Prelude.{codes, Some, slice_get}
 use Rattle.std.specs.Fmt.{decimal}
 use Rattle.std.proofs.lemmas.List.{append_assoc}
 use Rattle.std.proofs.lemmas.Option.{same_Some}
+use Rattle.k42_kinds.specs.declared.operation.Reply.{Reply}
 use Rattle.k42_kinds.specs.declared.entry.Answer.{Answer}
 use Rattle.k42_kinds.specs.declared.entry.Answer.TheVariants.{Swapped}
 use Rattle.script_text.specs.declared.script.Script.{Script}
@@ -83,7 +84,7 @@ swap_line-placed script column line number = record {
       (codes "</tspan></text>") (codes "<path class='s' d='M") (decimal (column_left column + 73)) (codes " 56V") (decimal (lane_top (length script.workers))) (codes "'/></g>\n");
 }
 
-pub swap-placed : (script : Script) (column : ℕ) (line : RecordLine) (answer : Answer) (number : ℕ) → answer ≡ Swapped number → IsLineDown line.object (column_left column + 73) (lane_top (length script.workers)) (swap_answered script column line answer)
+pub swap-placed : (script : Script) (column : ℕ) (line : RecordLine) (answer : Answer Reply) (number : ℕ) → answer ≡ Swapped number → IsLineDown line.object (column_left column + 73) (lane_top (length script.workers)) (swap_answered script column line answer)
 swap-placed script column line answer number swapped = rw swapped (swap_line-placed script column line number)
 
 -- ---- what stands in a picture

@@ -39,7 +39,7 @@ reply_mark-skipped skips (replies.Text text) rest = refl
 reply_mark-skipped skips replies.Zero rest = refl
 reply_mark-skipped skips replies.Gone rest = skips.fixed (codes "<use href='#gone'/>") rest refl
 
-answer_mark-skipped : {T : Type 0} {said : List ℕ → T} (skips : Skips said) (answer : Answer) (rest : List ℕ) → said (answer_mark answer ++ rest) ≡ said rest
+answer_mark-skipped : {T : Type 0} {said : List ℕ → T} (skips : Skips said) (answer : Answer Reply) (rest : List ℕ) → said (answer_mark answer ++ rest) ≡ said rest
 answer_mark-skipped skips (Replied reply) rest = reply_mark-skipped skips reply rest
 answer_mark-skipped skips (Swapped number) rest = refl
 answer_mark-skipped skips (Busy number) rest = skips.fixed (codes "<use href='#busy'/>") rest refl

@@ -35,7 +35,7 @@ abbrev pub blank_reply : Reply → Reply
 blank_reply (replies.Text text) = replies.Text []
 blank_reply reply = reply
 
-abbrev pub blank_answer : Answer → Answer
+abbrev pub blank_answer : Answer Reply → Answer Reply
 blank_answer (Replied reply) = Replied (blank_reply reply)
 blank_answer answer = answer
 

@@ -2,6 +2,7 @@
 use Rattle.std.specs.Prelude.{ℕ, ◌+◌, List, [], ◌++◌, codes, Option, Some, None}
 use Rattle.k42_kinds.specs.declared.operation.Reply.{Reply}
 use Rattle.k42_kinds.specs.declared.operation.Reply.TheVariants as replies
+use Rattle.k42_kinds.specs.declared.operation.Op.{Op}
 use Rattle.k42_kinds.specs.declared.entry.Act.{Act}
 use Rattle.k42_kinds.specs.declared.entry.Answer.{Answer}
 use Rattle.k42_kinds.specs.declared.entry.Answer.TheVariants.{Replied, Busy, Spent, Gone}
@@ -36,14 +37,14 @@ box_name name number =
 
 -- The act without the name of its object, which stands above it. Where several spaces stand in a
 -- row, one is shown, and none at the front.
-abbrev pub act_words : Act → List ℕ
+abbrev pub act_words : Act Op → List ℕ
 act_words act = behind_spaces (act_tokens [] act)
 
-abbrev pub answer_words : Answer → List ℕ
+abbrev pub answer_words : Answer Reply → List ℕ
 answer_words answer = behind_spaces (answer_tokens answer)
 
 -- the act and the answer
-unfoldable pub box_words : Act → Answer → List ℕ
+unfoldable pub box_words : Act Op → Answer Reply → List ℕ
 box_words act answer =
     worded (codes "</text><text x='4' y='26'>") (cut_to 23 (act_words act))
     ++ worded (codes "</text><text x='4' y='40'>=") (cut_to 20 (answer_words answer))
@@ -54,7 +55,7 @@ reply_mark replies.Gone = codes "<use href='#gone'/>"
 reply_mark _ = []
 
 -- what an answer other than the usual ones is marked with
-abbrev pub answer_mark : Answer → List ℕ
+abbrev pub answer_mark : Answer Reply → List ℕ
 answer_mark (Replied reply) = reply_mark reply
 answer_mark (Busy number) = codes "<use href='#busy'/>"
 answer_mark Spent = codes "<use href='#spent'/>"
@@ -67,7 +68,7 @@ generation_mark (Some generation) =
     numbered (codes "<text x='4' y='57'>g") generation ++ codes "</text>"
 generation_mark None = []
 
-unfoldable pub box_marks : Answer → Option ℕ → List ℕ
+unfoldable pub box_marks : Answer Reply → Option ℕ → List ℕ
 box_marks answer generation = answer_mark answer ++ generation_mark generation ++ codes "</g>\n"
 
 unfoldable pub box_front : Script → ℕ → RecordLine → List ℕ

@@ -1,6 +1,7 @@
 -- Where what marks a fault stands, read off its text, and what a broken rule means.
 use Rattle.std.specs.Prelude.{◌≡◌, ℕ, ◌+◌, ◌<◌, ◌≤◌, List, ◌++◌, codes}
 use Rattle.std.specs.Fmt.{decimal}
+use Rattle.k42_kinds.specs.declared.operation.Reply.{Reply}
 use Rattle.k42_kinds.specs.declared.entry.Answer.{Answer}
 use Rattle.k42_kinds.specs.declared.entry.Answer.TheVariants.{Busy}
 use Rattle.record_picture.specs.Measures.{column_left, lane_top}
@@ -67,7 +68,7 @@ pub record VeilsBehind (column columns lanes : ℕ) (text : List ℕ) : Type 0 w
       → LiesWithin (box_area other any) area
 
 -- what is wrong with the answer of a swap, where it breaks a rule
-abbrev pub answer_meaning : Answer → List ℕ
+abbrev pub answer_meaning : Answer Reply → List ℕ
 answer_meaning (Busy number) = codes "no such swap of another worker was under way"
 answer_meaning _ = codes "the swap would not have been answered so"
 

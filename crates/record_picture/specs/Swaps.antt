@@ -1,5 +1,7 @@
 -- The lines of swaps: one through all lanes for each swap that was carried out.
 use Rattle.std.specs.Prelude.{ℕ, ◌+◌, List, [], ◌++◌, length, codes}
+use Rattle.k42_kinds.specs.declared.operation.Op.{Op}
+use Rattle.k42_kinds.specs.declared.operation.Reply.{Reply}
 use Rattle.k42_kinds.specs.declared.entry.Act.{Act}
 use Rattle.k42_kinds.specs.declared.entry.Act.TheVariants.{Call, Swap}
 use Rattle.k42_kinds.specs.declared.entry.To.TheVariants.{Layout, Dead, Watch, Unwatch}
@@ -13,7 +15,7 @@ use Rattle.record_picture.specs.Measures.{column_left, lane_top}
 use Rattle.record_picture.specs.Pieces.{numbered, worded, placed_texts}
 
 -- the word of what a swap was to; a watch and an unwatch keep the layout, and have their own
-abbrev pub label_of : Act → List ℕ
+abbrev pub label_of : Act Op → List ℕ
 label_of (Call op) = []
 label_of (Swap (Layout layout)) = layout_word layout
 label_of (Swap Dead) = codes "dead"
@@ -28,7 +30,7 @@ swap_name column object name =
     ++ worded (codes "' y='38'>") name
 
 -- the number of the swap, and what it was to
-unfoldable pub swap_number : ℕ → ℕ → Act → List ℕ
+unfoldable pub swap_number : ℕ → ℕ → Act Op → List ℕ
 swap_number column number act =
     numbered (codes " <tspan x='") (column_left column)
     ++ numbered (codes "' y='51'>") number
@@ -49,7 +51,7 @@ swap_line script column line number =
     ++ swap_path column (length script.workers)
 
 -- An entry has a line where it is a swap that was carried out, and else none.
-abbrev pub swap_answered : Script → ℕ → RecordLine → Answer → List ℕ
+abbrev pub swap_answered : Script → ℕ → RecordLine → Answer Reply → List ℕ
 swap_answered script column line (Swapped number) = swap_line script column line number
 swap_answered script column line _ = []
 

@@ -11,7 +11,7 @@ use crate::frames::generation_of;
 use crate::measures::{column_left, lane_top};
 use crate::pieces::{cut, put_fixed, put_numbered, put_worded};
 use crate::swaps::object_name;
-use k42_kinds::{Act, Answer, Reply};
+use k42_kinds::{Act, Answer, Op, Reply};
 use k42_memory::Memory;
 use record_text::{RecordLine, put_act, put_answer, put_line};
 use script_text::Script;
@@ -62,7 +62,7 @@ fn put_name(out: &mut Vec<u8>, name: &[u8], number: u64) -> Result<(), Memory>
 }
 
 /// The words of an act, cut to the room in a box.
-fn act_words(alloc: Global, act: &Act) -> Result<Vec<u8>, Memory>
+fn act_words(alloc: Global, act: &Act<Op>) -> Result<Vec<u8>, Memory>
     ensures { IfOk result (λ text. text.items ≡ cut_to 23 (drawn.act_words act.now)) }
 {
     let mut words = Vec::new(alloc);
@@ -71,7 +71,7 @@ fn act_words(alloc: Global, act: &Act) -> Result<Vec<u8>, Memory>
 }
 
 /// The words of an answer, cut to the room in a box.
-fn answer_words(alloc: Global, act: &Act, answer: &Answer) -> Result<Vec<u8>, Memory>
+fn answer_words(alloc: Global, act: &Act<Op>, answer: &Answer<Reply>) -> Result<Vec<u8>, Memory>
     requires { Ends act.now answer.now }
     ensures { IfOk result (λ text. text.items ≡ cut_to 20 (drawn.answer_words answer.now)) }
 {
@@ -81,7 +81,12 @@ fn answer_words(alloc: Global, act: &Act, answer: &Answer) -> Result<Vec<u8>, Me
 }
 
 #[tactic(auto, unfolding(crate::specs::Boxes::box_words))]
-fn put_words(alloc: Global, out: &mut Vec<u8>, act: &Act, answer: &Answer) -> Result<(), Memory>
+fn put_words(
+    alloc: Global,
+    out: &mut Vec<u8>,
+    act: &Act<Op>,
+    answer: &Answer<Reply>,
+) -> Result<(), Memory>
     requires { Ends act.now answer.now }
     ensures { OnOk result (
         out.new.items ≡ out.old.items ++ drawn.box_words act.now answer.now) }
@@ -93,7 +98,7 @@ fn put_words(alloc: Global, out: &mut Vec<u8>, act: &Act, answer: &Answer) -> Re
     put_fixed(out, b"</text>")
 }
 
-fn answer_mark(answer: &Answer) -> &'static [u8]
+fn answer_mark(answer: &Answer<Reply>) -> &'static [u8]
     ensures { result.now ≡ drawn.answer_mark answer.now }
 {
     match answer {
@@ -115,7 +120,11 @@ fn put_generation(out: &mut Vec<u8>, generation: Option<u32>) -> Result<(), Memo
 }
 
 #[tactic(auto, unfolding(crate::specs::Boxes::box_marks))]
-fn put_box_marks(out: &mut Vec<u8>, answer: &Answer, generation: Option<u32>) -> Result<(), Memory>
+fn put_box_marks(
+    out: &mut Vec<u8>,
+    answer: &Answer<Reply>,
+    generation: Option<u32>,
+) -> Result<(), Memory>
     ensures { OnOk result (
         out.new.items ≡ out.old.items ++ drawn.box_marks answer.now generation) }
 {

@@ -1,5 +1,6 @@
 ghost use Rattle.std.specs.Prelude.{◌≡◌, ℕ, List, [], ◌++◌, ◌+◌, ◌<◌, ◌≢◌, length, codes, slice_get, Some};
 ghost use Rattle.std.specs.Fmt.{decimal};
+ghost use Rattle.k42_kinds.specs.declared.operation.Reply.{Reply};
 ghost use Rattle.k42_kinds.specs.declared.entry.Answer.{Answer};
 ghost use Rattle.k42_kinds.specs.declared.entry.Act.TheVariants.{Call};
 ghost use Rattle.k42_kinds.specs.declared.operation.Op.{Op};
@@ -51,14 +52,14 @@ pub fn the_verdict_is_told_in_words()
         StandsIn (codes "'>lawful " ++ decimal (length written.lines) ++ codes "</text>")
         (picture script written Lawful window) }
     ensures calls { (script : Script) (written : Record) (window : Window) (line : ℕ)
-        (op : Op) (answer : Answer) →
+        (op : Op) (answer : Answer Reply) →
         StandsIn
         (fault_words line (rule_number (rule_of_act (Call op) answer))
         (codes "the object would not have replied so"))
         (picture script written (Unlawful line (rule_number (rule_of_act (Call op) answer)))
         window) }
     ensures swaps { (script : Script) (written : Record) (window : Window) (line : ℕ)
-        (answer : Answer) →
+        (answer : Answer Reply) →
         StandsIn
         (fault_words line (rule_number (rule_of_answer answer)) (answer_meaning answer))
         (picture script written (Unlawful line (rule_number (rule_of_answer answer))) window) }

@@ -8,7 +8,7 @@ ghost use Rattle.record_picture.specs.declared.window.TheConstants.{COLUMNS};
 
 use crate::measures::{column_left, lane_top};
 use crate::pieces::{put_fixed, put_numbered, put_worded};
-use k42_kinds::{Act, Answer, LayoutName, To};
+use k42_kinds::{Act, Answer, LayoutName, Op, To};
 use k42_memory::Memory;
 use record_text::RecordLine;
 use script_text::Script;
@@ -20,7 +20,7 @@ pub fn object_name(script: &Script, object: u32) -> &[u8]
     script.objects.as_slice()[object as usize].name.bytes()
 }
 
-fn label_of(act: &Act) -> &'static [u8]
+fn label_of(act: &Act<Op>) -> &'static [u8]
     ensures { result.now ≡ drawn.label_of act.now }
 {
     match act {
@@ -44,7 +44,7 @@ fn put_swap_name(out: &mut Vec<u8>, column: u32, object: u32, name: &[u8]) -> Re
 }
 
 #[tactic(auto, unfolding(crate::specs::Swaps::swap_number))]
-fn put_swap_number(out: &mut Vec<u8>, column: u32, number: u32, act: &Act) -> Result<(), Memory>
+fn put_swap_number(out: &mut Vec<u8>, column: u32, number: u32, act: &Act<Op>) -> Result<(), Memory>
     ensures { OnOk result (
         out.new.items ≡ out.old.items ++ drawn.swap_number column number act.now) }
 {

@@ -17,8 +17,8 @@ use std::process::Abort;
 struct Told {
     caller: u32,
     index: u64,
-    act: Act,
-    answer: Answer,
+    act: Act<Op>,
+    answer: Answer<Reply>,
     incarnation: u32,
     generation: Option<u32>,
 }
@@ -36,7 +36,7 @@ struct Case {
 }
 
 /// A line of a script: its worker, its number and its act.
-type Line = (u32, u32, Act);
+type Line = (u32, u32, Act<Op>);
 
 fn name(rt: &impl Abort, bytes: &[u8]) -> Name {
     Name::of(bytes).expect(rt, "a name")
@@ -89,7 +89,7 @@ fn script_of(rt: &impl Abort, alloc: Global, case: &Case, lines: &[Line]) -> Scr
     }
 }
 
-fn entries_of(rt: &impl Abort, alloc: Global, told: &[Told]) -> Vec<Entry> {
+fn entries_of(rt: &impl Abort, alloc: Global, told: &[Told]) -> Vec<Entry<Op, Reply>> {
     let mut entries = Vec::new(alloc);
     for (i, told) in told.iter().enumerate() {
         let entry = Entry {
@@ -140,20 +140,20 @@ fn expect_text(rt: &impl Abort, alloc: Global, case: &Case, lines: &[Line], told
     assert!(rt; text.as_slice() == case.text, "{}", case.shows);
 }
 
-fn call(op: Op) -> Act {
+fn call(op: Op) -> Act<Op> {
     Act::Call(op)
 }
 
-fn add(amount: u32) -> Act {
+fn add(amount: u32) -> Act<Op> {
     call(Op::Add(amount))
 }
 
-fn swap(layout: LayoutName) -> Act {
+fn swap(layout: LayoutName) -> Act<Op> {
     Act::Swap(To::Layout(layout))
 }
 
 /// The reply to a call in an activity of the first generation.
-fn reply(caller: u32, index: u64, act: Act, reply: Reply, incarnation: u32) -> Told {
+fn reply(caller: u32, index: u64, act: Act<Op>, reply: Reply, incarnation: u32) -> Told {
     Told {
         caller,
         index,
@@ -165,7 +165,7 @@ fn reply(caller: u32, index: u64, act: Act, reply: Reply, incarnation: u32) -> T
 }
 
 /// The end of a swap.
-fn end(caller: u32, index: u64, act: Act, answer: Answer, incarnation: u32) -> Told {
+fn end(caller: u32, index: u64, act: Act<Op>, answer: Answer<Reply>, incarnation: u32) -> Told {
     Told {
         caller,
         index,
@@ -226,7 +226,7 @@ fn swaps_and_destroys(rt: HostRuntime) {
         end(0, 1, swap(LayoutName::Spread), Answer::Swapped(1), 0),
         get_after,
     ];
-    let swap_lines: &[(u32, u32, Act)] = &[
+    let swap_lines: &[(u32, u32, Act<Op>)] = &[
         (0, 4, add(5)),
         (0, 5, swap(LayoutName::Spread)),
         (0, 6, call(Op::Get)),
@@ -441,7 +441,7 @@ fn script_of_long_names(rt: &impl Abort, alloc: Global) -> Script {
 }
 
 /// A line whose numbers are the greatest of their types.
-fn widest(object: u32, act: Act, answer: Answer) -> RecordLine {
+fn widest(object: u32, act: Act<Op>, answer: Answer<Reply>) -> RecordLine {
     RecordLine {
         stamp: u64::MAX,
         worker: 0,

@@ -10,6 +10,8 @@ use Rattle.k42_kinds.specs.Legal.{IsLegalAct, IsLegalAnswer, IsLegalAmong, IsLeg
 use Rattle.k42_kinds.specs.declared.operation.KindName.{KindName}
 use Rattle.k42_kinds.specs.declared.states.AnyState.{AnyState}
 use Rattle.k42_kinds.specs.declared.watch.WatchState.{WatchState}
+use Rattle.k42_kinds.specs.declared.operation.Op.{Op}
+use Rattle.k42_kinds.specs.declared.operation.Reply.{Reply}
 use Rattle.k42_kinds.specs.declared.entry.Act.{Act}
 use Rattle.k42_kinds.specs.declared.entry.Act.TheVariants.{Call, Swap}
 use Rattle.k42_kinds.specs.declared.entry.Answer.{Answer}
@@ -34,39 +36,39 @@ all_unmap {X} P Q f xs each all = λ k d within. each (get_or xs k d) (subst (λ
 
 module _ (script : Script) (version : ℕ) where
   -- the entry without what its line does not tell
-  abbrev pub bare : Entry → Entry
+  abbrev pub bare : Entry Op Reply → Entry Op Reply
   bare entry = told (line_of script version entry)
 
-  states_same : (kind : KindName) (object : ℕ) (state : WatchState AnyState) (history : List Entry) → fold (moved_by kind object) state (map bare history) ≡ fold (moved_by kind object) state history
+  states_same : (kind : KindName) (object : ℕ) (state : WatchState AnyState) (history : List (Entry Op Reply)) → fold (moved_by kind object) state (map bare history) ≡ fold (moved_by kind object) state history
   states_same kind object state [] = refl
   states_same kind object state (entry ∷ history) = states_same kind object (moved_by kind object state entry) history
 
-  state_same : (kind : KindName) (object : ℕ) (history : List Entry) → state_of kind object (map bare history) ≡ state_of kind object history
+  state_same : (kind : KindName) (object : ℕ) (history : List (Entry Op Reply)) → state_of kind object (map bare history) ≡ state_of kind object history
   state_same kind object history = states_same kind object (watched_object kind).start history
 
-  number_same : (object : ℕ) (history : List Entry) → number_of object (map bare history) ≡ number_of object history
-  number_same object history = fold-map (λ (n : ℕ) (entry : Entry). n + cond (is_carried_out_on object entry) 1 0) bare 0 history
+  number_same : (object : ℕ) (history : List (Entry Op Reply)) → number_of object (map bare history) ≡ number_of object history
+  number_same object history = fold-map (λ (n : ℕ) (entry : Entry Op Reply). n + cond (is_carried_out_on object entry) 1 0) bare 0 history
 
-  module _ (kind : KindName) (before : List Entry) (entry : Entry) (after : List Entry) where
-    abbrev B : List Entry
+  module _ (kind : KindName) (before : List (Entry Op Reply)) (entry : Entry Op Reply) (after : List (Entry Op Reply)) where
+    abbrev B : List (Entry Op Reply)
     B = map bare before
 
-    abbrev A : List Entry
+    abbrev A : List (Entry Op Reply)
     A = map bare after
 
-    abbrev E : Entry
+    abbrev E : Entry Op Reply
     E = bare entry
 
-    own_to : (other : Entry) → IsOwn entry other → IsOwn E (bare other)
+    own_to : (other : Entry Op Reply) → IsOwn entry other → IsOwn E (bare other)
     own_to other own = record { caller = own.caller; object = own.object }
 
-    own_from : (other : Entry) → IsOwn E (bare other) → IsOwn entry other
+    own_from : (other : Entry Op Reply) → IsOwn E (bare other) → IsOwn entry other
     own_from other own = record { caller = own.caller; object = own.object }
 
-    past_to : (number : ℕ) (other : Entry) → IsNotPast number other → IsNotPast number (bare other)
+    past_to : (number : ℕ) (other : Entry Op Reply) → IsNotPast number other → IsNotPast number (bare other)
     past_to number other past = record { incarnation = past.incarnation; carried_out = past.carried_out }
 
-    past_from : (number : ℕ) (other : Entry) → IsNotPast number (bare other) → IsNotPast number other
+    past_from : (number : ℕ) (other : Entry Op Reply) → IsNotPast number (bare other) → IsNotPast number other
     past_from number other past = record { incarnation = past.incarnation; carried_out = past.carried_out }
 
     timely_to : (number : ℕ) → IsTimely before entry after number → IsTimely B E A number
@@ -83,10 +85,10 @@ module _ (script : Script) (version : ℕ) where
       later = all_unmap (λ other. IsOwn entry other → number ≤ other.incarnation + 1) (λ other. IsOwn E other → number ≤ other.incarnation + 1) bare after (λ other h own. h (own_to other own)) timely.later;
     }
 
-    rival_to : (number : ℕ) (other : Entry) → IsRival entry number other → IsRival E number (bare other)
+    rival_to : (number : ℕ) (other : Entry Op Reply) → IsRival entry number other → IsRival E number (bare other)
     rival_to number other rival = record { caller = rival.caller; object = rival.object; settles = rival.settles }
 
-    rival_from : (number : ℕ) (other : Entry) → IsRival E number (bare other) → IsRival entry number other
+    rival_from : (number : ℕ) (other : Entry Op Reply) → IsRival E number (bare other) → IsRival entry number other
     rival_from number other rival = record { caller = rival.caller; object = rival.object; settles = rival.settles }
 
     refusal_to : (number : ℕ) → IsLegalRefusal before entry after number → IsLegalRefusal B E A number
@@ -107,7 +109,7 @@ module _ (script : Script) (version : ℕ) where
     N : number_of entry.object B ≡ number_of entry.object before
     N = number_same entry.object before
 
-    answer_to : (answer : Answer) → IsLegalAnswer kind before entry after answer → IsLegalAnswer kind B E A answer
+    answer_to : (answer : Answer Reply) → IsLegalAnswer kind before entry after answer → IsLegalAnswer kind B E A answer
     answer_to (Swapped number) legal = record { next = legal.next ∙ ap (λ (n : ℕ). n + 1) (sym N); alive = ap (watched_object kind).is_ended S ∙ legal.alive; unspent = omega (arith, legal.unspent, N); incarnation = legal.incarnation ∙ sym N }
     answer_to Spent legal = record { alive = ap (watched_object kind).is_ended S ∙ legal.alive; spent = N ∙ legal.spent; incarnation = legal.incarnation ∙ sym N }
     answer_to Gone legal = record { dead = ap (watched_object kind).is_ended S ∙ legal.dead; incarnation = legal.incarnation ∙ sym N }
@@ -115,7 +117,7 @@ module _ (script : Script) (version : ℕ) where
     answer_to (Abandoned number) legal = timely_to number legal
     answer_to (Replied reply) legal = legal
 
-    answer_from : (answer : Answer) → IsLegalAnswer kind B E A answer → IsLegalAnswer kind before entry after answer
+    answer_from : (answer : Answer Reply) → IsLegalAnswer kind B E A answer → IsLegalAnswer kind before entry after answer
     answer_from (Swapped number) legal = record { next = legal.next ∙ ap (λ (n : ℕ). n + 1) N; alive = ap (watched_object kind).is_ended (sym S) ∙ legal.alive; unspent = omega (arith, legal.unspent, N); incarnation = legal.incarnation ∙ N }
     answer_from Spent legal = record { alive = ap (watched_object kind).is_ended (sym S) ∙ legal.alive; spent = sym N ∙ legal.spent; incarnation = legal.incarnation ∙ N }
     answer_from Gone legal = record { dead = ap (watched_object kind).is_ended (sym S) ∙ legal.dead; incarnation = legal.incarnation ∙ N }
@@ -123,27 +125,27 @@ module _ (script : Script) (version : ℕ) where
     answer_from (Abandoned number) legal = timely_from number legal
     answer_from (Replied reply) legal = legal
 
-    act_to : (act : Act) → IsLegalAct kind before entry after act → IsLegalAct kind B E A act
+    act_to : (act : Act Op) → IsLegalAct kind before entry after act → IsLegalAct kind B E A act
     act_to (Call op) legal = record { own_kind = legal.own_kind; replied = legal.replied ∙ ap (λ (s : WatchState AnyState). Replied ((watched_object kind).reply s op)) (sym S); incarnation = legal.incarnation ∙ sym N }
     act_to (Swap to) legal = answer_to entry.answer legal
 
-    act_from : (act : Act) → IsLegalAct kind B E A act → IsLegalAct kind before entry after act
+    act_from : (act : Act Op) → IsLegalAct kind B E A act → IsLegalAct kind before entry after act
     act_from (Call op) legal = record { own_kind = legal.own_kind; replied = legal.replied ∙ ap (λ (s : WatchState AnyState). Replied ((watched_object kind).reply s op)) S; incarnation = legal.incarnation ∙ N }
     act_from (Swap to) legal = answer_from entry.answer legal
 
-  told_all : (history : List Entry) → map told (map (line_of script version) history) ≡ map bare history
+  told_all : (history : List (Entry Op Reply)) → map told (map (line_of script version) history) ≡ map bare history
   told_all [] = refl
-  told_all (entry ∷ history) = ap (λ (rest : List Entry). bare entry ∷ rest) (told_all history)
+  told_all (entry ∷ history) = ap (λ (rest : List (Entry Op Reply)). bare entry ∷ rest) (told_all history)
 
   -- an entry is legal where its line is
-  pub legal_to : (kinds : List KindName) (before : List Entry) (entry : Entry) (after : List Entry) → IsLegalAmong kinds before entry after → IsLegalAmong kinds (map told (map (line_of script version) before)) (told (line_of script version entry)) (map told (map (line_of script version) after))
+  pub legal_to : (kinds : List KindName) (before : List (Entry Op Reply)) (entry : Entry Op Reply) (after : List (Entry Op Reply)) → IsLegalAmong kinds before entry after → IsLegalAmong kinds (map told (map (line_of script version) before)) (told (line_of script version entry)) (map told (map (line_of script version) after))
   legal_to kinds before entry after legal = rw (told_all before, told_all after) (record {
     kind = legal.kind;
     declared = legal.declared;
     legal = act_to legal.kind before entry after entry.act legal.legal;
   })
 
-  pub legal_from : (kinds : List KindName) (before : List Entry) (entry : Entry) (after : List Entry) → IsLegalAmong kinds (map told (map (line_of script version) before)) (told (line_of script version entry)) (map told (map (line_of script version) after)) → IsLegalAmong kinds before entry after
+  pub legal_from : (kinds : List KindName) (before : List (Entry Op Reply)) (entry : Entry Op Reply) (after : List (Entry Op Reply)) → IsLegalAmong kinds (map told (map (line_of script version) before)) (told (line_of script version entry)) (map told (map (line_of script version) after)) → IsLegalAmong kinds before entry after
   legal_from kinds before entry after legal =
       let l : IsLegalAmong kinds (map bare before) (bare entry) (map bare after) = rw (told_all before, told_all after) at legal in
       record {

@@ -3,7 +3,9 @@ use Rattle.std.proofs.Common.{◌≡◌, ℕ, zero, suc, ◌<◌, Bool, false, L
 use Rattle.std.specs.Prelude.{Option, Some, None, is_some, codes}
 use Rattle.k42_kinds.specs.declared.operation.KindName.TheVariants.{Counter}
 use Rattle.k42_kinds.specs.declared.operation.LayoutName.TheVariants.{Shared, Spread}
+use Rattle.k42_kinds.specs.declared.operation.Op.{Op}
 use Rattle.k42_kinds.specs.declared.operation.Op.TheVariants.{Add, Get, Seen}
+use Rattle.k42_kinds.specs.declared.operation.Reply.{Reply}
 use Rattle.k42_kinds.specs.declared.operation.Reply.TheVariants.{Done, None as Nothing, Number}
 use Rattle.k42_kinds.specs.declared.entry.Act.{Act}
 use Rattle.k42_kinds.specs.declared.entry.Act.TheVariants.{Call, Swap}
@@ -26,7 +28,7 @@ use Rattle.record_text.specs.Told.{told}
 use Rattle.record_text.specs.declared.record.Record.{Record}
 use Rattle.record_text.specs.declared.record.RecordLine.{RecordLine}
 
-abbrev asks : ℕ → Act → Item
+abbrev asks : ℕ → Act Op → Item
 asks number act = Line (record { line = number; object = 0; act = act })
 
 abbrev worker : List ℕ → ℕ → List Item → WorkerLines
@@ -45,7 +47,7 @@ counting = record {
 }
 
 -- a line of version 1, by its stamp, worker, number and incarnation
-abbrev tells : ℕ → ℕ → ℕ → ℕ → Act → Answer → RecordLine
+abbrev tells : ℕ → ℕ → ℕ → ℕ → Act Op → Answer Reply → RecordLine
 tells stamp worker number incarnation act answer = record { stamp = stamp; worker = worker; line = number; object = 0; act = act; answer = answer; incarnation = incarnation; extra = None }
 
 -- the same of version 2, with the processor and the generation
@@ -79,7 +81,7 @@ abbrev said_object : Option CallLine → ℕ
 said_object (Some said) = said.object
 said_object None = 0
 
-abbrev said_act : Option CallLine → Act
+abbrev said_act : Option CallLine → Act Op
 said_act (Some said) = said.act
 said_act None = Call Get
 
@@ -204,7 +206,7 @@ tells_more written = first_tells_more written.lines
 told_in_version_1 : IsLawfulRecord counting (record { lines = with 0 0 added ∷ []; version = 1 }) → ⊥
 told_in_version_1 lawful = by lawful.history lawful.same
   where
-    by : (history : List Entry) → ◌≡◌ {A = Record} (record { lines = with 0 0 added ∷ []; version = 1 }) (record_of counting history 1) → ⊥
+    by : (history : List (Entry Op Reply)) → ◌≡◌ {A = Record} (record { lines = with 0 0 added ∷ []; version = 1 }) (record_of counting history 1) → ⊥
     by [] same = cc (ap tells_more same)
     by (entry ∷ history) same = cc (ap tells_more same)
 

@@ -5,6 +5,7 @@ use Rattle.std.proofs.lemmas.List.Elements.{All-from_recursion}
 use Rattle.std.proofs.lemmas.Option.{same_Some}
 use Rattle.k42_kinds.specs.declared.operation.KindName.TheVariants.{Counter}
 use Rattle.k42_kinds.specs.declared.operation.LayoutName.TheVariants.{Shared}
+use Rattle.k42_kinds.specs.declared.operation.Op.{Op}
 use Rattle.k42_kinds.specs.declared.operation.Op.TheVariants.{Add, Get}
 use Rattle.k42_kinds.specs.declared.operation.Reply.{Reply}
 use Rattle.k42_kinds.specs.declared.operation.Reply.TheVariants.{Done, Number}
@@ -22,7 +23,7 @@ use Rattle.record_text.specs.Histories.{line_of, record_of}
 use Rattle.record_text.specs.Rules.{Generations, KeepsAt, KeepsGenerations, IsLawfulRecord}
 use Rattle.record_text.specs.declared.record.RecordLine.{RecordLine}
 
-abbrev calls : ℕ → Act → Item
+abbrev calls : ℕ → Act Op → Item
 calls number act = Line (record { line = number; object = 0; act = act })
 
 -- a worker on the processor of this number
@@ -33,7 +34,7 @@ worker name proc items = record { name = name; proc = proc; items = items }
 abbrev counting : List WorkerLines → Script
 counting workers = record { procs = 2; objects = record { name = codes "hits"; kind = Counter; layout = Shared } ∷ []; workers = workers }
 
-abbrev entry : ℕ → ℕ → ℕ → Act → Reply → ℕ → ℕ → Entry
+abbrev entry : ℕ → ℕ → ℕ → Act Op → Reply → ℕ → ℕ → Entry Op Reply
 entry stamp caller index act reply proc generation = record { stamp = stamp; caller = caller; index = index; object = 0; incarnation = 0; cell = 0; act = act; answer = Replied reply; proc = proc; generation = Some generation }
 
 -- ---- two workers with a line each
@@ -48,7 +49,7 @@ abbrev of_two : Script
 of_two = counting (first_worker ∷ second_worker ∷ [])
 
 -- the later line, of the other worker, has the lower generation
-abbrev falling_between : List Entry
+abbrev falling_between : List (Entry Op Reply)
 falling_between = entry 1 0 0 (Call (Add 1)) Done 0 5 ∷ entry 2 1 0 (Call Get) (Number 1) 1 3 ∷ []
 
 two_in_order : (number : ℕ) (lines : WorkerLines) → slice_get of_two.workers number ≡ Some lines → DoesItsLines falling_between number lines
@@ -60,8 +61,8 @@ two_lawful : IsLawful of_two falling_between
 two_lawful = record {
   legal = legal_history _ _ (search arith) (search arith);
   in_order = two_in_order;
-  no_stranger = All-from_recursion (λ (e : Entry). e.caller < 2) falling_between (search arith);
-  none_given_up = All-from_recursion (λ (e : Entry). IsNotGivenUp e.answer) falling_between (search arith);
+  no_stranger = All-from_recursion (λ (e : Entry Op Reply). e.caller < 2) falling_between (search arith);
+  none_given_up = All-from_recursion (λ (e : Entry Op Reply). IsNotGivenUp e.answer) falling_between (search arith);
 }
 
 abbrev lines_of_two : List RecordLine
@@ -86,7 +87,7 @@ abbrev of_one : Script
 of_one = counting (only_worker ∷ [])
 
 -- the two lines, in these generations
-abbrev told_in : ℕ → ℕ → List Entry
+abbrev told_in : ℕ → ℕ → List (Entry Op Reply)
 told_in former later = entry 1 0 0 (Call (Add 1)) Done 0 former ∷ entry 2 0 1 (Call Get) (Number 1) 0 later ∷ []
 
 one_in_order : (former later number : ℕ) (lines : WorkerLines) → slice_get of_one.workers number ≡ Some lines → DoesItsLines (told_in former later) number lines
@@ -98,8 +99,8 @@ one_lawful : (former later : ℕ) → IsLawful of_one (told_in former later)
 one_lawful former later = record {
   legal = legal_history _ _ (search arith) (search arith);
   in_order = one_in_order former later;
-  no_stranger = All-from_recursion (λ (e : Entry). e.caller < 1) (told_in former later) (search arith);
-  none_given_up = All-from_recursion (λ (e : Entry). IsNotGivenUp e.answer) (told_in former later) (search arith);
+  no_stranger = All-from_recursion (λ (e : Entry Op Reply). e.caller < 1) (told_in former later) (search arith);
+  none_given_up = All-from_recursion (λ (e : Entry Op Reply). IsNotGivenUp e.answer) (told_in former later) (search arith);
 }
 
 -- but the record is not where the generation falls

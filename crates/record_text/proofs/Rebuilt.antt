@@ -9,6 +9,8 @@ use Rattle.std.proofs.lemmas.List.{length-map, length-append, map-append, append
 use Rattle.std.proofs.lemmas.List.Elements.{All-from_recursion, recursion_from_All}
 use Rattle.std.proofs.Math.Seq.{take-append_seam}
 use Rattle.std.proofs.Math.ListN.{drop_of_length-le}
+use Rattle.k42_kinds.specs.declared.operation.Op.{Op}
+use Rattle.k42_kinds.specs.declared.operation.Reply.{Reply}
 use Rattle.k42_kinds.specs.declared.entry.Act.{Act}
 use Rattle.k42_kinds.specs.declared.entry.Act.TheVariants.{Call, Swap}
 use Rattle.k42_kinds.specs.declared.entry.Answer.{Answer}
@@ -37,7 +39,7 @@ told_processor (Some extra) = extra.proc
 told_processor None = 0
 
 -- the entry of a line that answers its worker's line of this place
-abbrev entry_at : ℕ → RecordLine → Entry
+abbrev entry_at : ℕ → RecordLine → Entry Op Reply
 entry_at index line = record {
   stamp = line.stamp;
   caller = line.worker;
@@ -52,7 +54,7 @@ entry_at index line = record {
 }
 
 -- the history of the lines behind others
-abbrev history_from : List RecordLine → List RecordLine → List Entry
+abbrev history_from : List RecordLine → List RecordLine → List (Entry Op Reply)
 history_from front [] = []
 history_from front (line ∷ lines) = entry_at (length (lines_by line.worker front)) line ∷ history_from (front ++ line ∷ []) lines
 
@@ -69,7 +71,7 @@ module _ (script : Script) where
     are_next (front ++ line ∷ []) lines (λ place other there. rw (append_assoc front (line ∷ []) (take place lines)) (each (suc place) other there)),
   )
 
-  extra_same : (version : ℕ) (act : Act) (extra : Option Extra) → MatchOption extra (version ≡ 1) (λ e. (version ≡ 2) × HasGeneration act e.generation) → (if eqb version 2 then Some (record { proc = told_processor extra; generation = told_generation extra }) else None) ≡ extra
+  extra_same : (version : ℕ) (act : Act Op) (extra : Option Extra) → MatchOption extra (version ≡ 1) (λ e. (version ≡ 2) × HasGeneration act e.generation) → (if eqb version 2 then Some (record { proc = told_processor extra; generation = told_generation extra }) else None) ≡ extra
   extra_same version act (Some extra) is = rw is.0 refl
   extra_same version act None is = rw is refl
 
@@ -109,7 +111,7 @@ module _ (script : Script) where
   known_callers front [] all = tt
   known_callers front (line ∷ lines) all = (all.0.by_worker, known_callers (front ++ line ∷ []) lines all.1)
 
-  not_given_up : (act : Act) (answer : Answer) → Ends act answer → IsNotGivenUp answer
+  not_given_up : (act : Act Op) (answer : Answer Reply) → Ends act answer → IsNotGivenUp answer
   not_given_up (Call op) (Abandoned number) form = form
   not_given_up (Swap to) (Abandoned number) form = form
   not_given_up act (Replied reply) form = tt
@@ -154,7 +156,7 @@ lawful_from_rules script written text keeps =
     let history = history_from [] lines in
     let back : map (line_of script version) history ≡ lines = lines_back script version [] lines next (recursion_from_All (IsOfVersion version) lines text.told) in
     let spelled = recursion_from_All (HasSpelling script) lines text.spelled in
-    let there : (before : List Entry) (entry : Entry) (after : List Entry) → history ≡ before ++ entry ∷ after → KeepsThere script (map (line_of script version) before) (line_of script version entry) (map (line_of script version) after) =
+    let there : (before : List (Entry Op Reply)) (entry : Entry Op Reply) (after : List (Entry Op Reply)) → history ≡ before ++ entry ∷ after → KeepsThere script (map (line_of script version) before) (line_of script version entry) (map (line_of script version) after) =
     λ before entry after split. keeps_there script lines keeps (map (line_of script version) before) (line_of script version entry) (map (line_of script version) after)
     (sym back ∙ ap (map (line_of script version)) split ∙ map-append (line_of script version) before (entry ∷ after)) in
     record {
@@ -167,8 +169,8 @@ lawful_from_rules script written text keeps =
         in_order = λ number worker found.
             let calls : calls_of script number ≡ call_lines worker.items = ap (λ (l : Option WorkerLines). option_map_or (λ (w : WorkerLines). call_lines w.items) l []) found in
             rw calls at (deeds_back script number [] lines next (keeps.complete number));
-        no_stranger = All-from_recursion (λ (entry : Entry). entry.caller < length script.workers) history (known_callers script [] lines spelled);
-        none_given_up = All-from_recursion (λ (entry : Entry). IsNotGivenUp entry.answer) history (none_given_up script [] lines spelled);
+        no_stranger = All-from_recursion (λ (entry : Entry Op Reply). entry.caller < length script.workers) history (known_callers script [] lines spelled);
+        none_given_up = All-from_recursion (λ (entry : Entry Op Reply). IsNotGivenUp entry.answer) history (none_given_up script [] lines spelled);
       };
       same = ap (λ (ls : List RecordLine). record { lines = ls; version = version }) (sym back);
       generations = λ place. keeps.each place Generations;

@@ -6,6 +6,8 @@ use Rattle.std.proofs.lemmas.Bool.{eq-eqb, cases_order}
 use Rattle.std.proofs.lemmas.List.{length-map, map-append, take-append-drop, take-map, drop-map}
 use Rattle.std.proofs.lemmas.List.Elements.{filter-append}
 use Rattle.std.proofs.lemmas.Option.{same_Some, slice_get-map}
+use Rattle.k42_kinds.specs.declared.operation.Op.{Op}
+use Rattle.k42_kinds.specs.declared.operation.Reply.{Reply}
 use Rattle.k42_kinds.specs.declared.entry.Entry.{Entry}
 use Rattle.k42_kinds.specs.Histories.{entries_of}
 use Rattle.k42_kinds.proofs.Splits.{All-at_split, heads}
@@ -47,30 +49,30 @@ length_deeds : (calls : List CallLine) (from : ℕ) → length (deeds_from from 
 length_deeds [] from = refl
 length_deeds (call ∷ calls) from = ap suc (length_deeds calls (from + 1))
 
-record IsLineOf (script : Script) (version : ℕ) (history : List Entry) (place : ℕ) (line : RecordLine) : Type 0 where
-  entry : Entry
+record IsLineOf (script : Script) (version : ℕ) (history : List (Entry Op Reply)) (place : ℕ) (line : RecordLine) : Type 0 where
+  entry : Entry Op Reply
   there : slice_get history place ≡ Some entry
   same : line_of script version entry ≡ line
 
-mapped : (script : Script) (version : ℕ) (history : List Entry) (place : ℕ) (line : RecordLine) (found : Option Entry) → slice_get history place ≡ found → option_map (line_of script version) found ≡ Some line → IsLineOf script version history place line
+mapped : (script : Script) (version : ℕ) (history : List (Entry Op Reply)) (place : ℕ) (line : RecordLine) (found : Option (Entry Op Reply)) → slice_get history place ≡ found → option_map (line_of script version) found ≡ Some line → IsLineOf script version history place line
 mapped script version history place line (Some entry) there e = record { entry = entry; there = there; same = same_Some (line_of script version entry) line e }
 mapped script version history place line None there e = cc e
 
 module _ (script : Script) (version : ℕ) where
-  by-map : (worker : ℕ) (history : List Entry) → lines_by worker (map (line_of script version) history) ≡ map (line_of script version) (entries_of worker history)
+  by-map : (worker : ℕ) (history : List (Entry Op Reply)) → lines_by worker (map (line_of script version) history) ≡ map (line_of script version) (entries_of worker history)
   by-map worker [] = refl
   by-map worker (entry ∷ history) = elim (entry.caller == worker) as (λ b. cond b (line_of script version entry ∷ lines_by worker (map (line_of script version) history)) (lines_by worker (map (line_of script version) history)) ≡ map (line_of script version) (cond b (entry ∷ entries_of worker history) (entries_of worker history))) [
     | true ↦ ap (λ (rest : List RecordLine). line_of script version entry ∷ rest) (by-map worker history)
     | false ↦ by-map worker history
   ]
 
-  pub length_by : (worker : ℕ) (history : List Entry) → length (lines_by worker (map (line_of script version) history)) ≡ length (entries_of worker history)
+  pub length_by : (worker : ℕ) (history : List (Entry Op Reply)) → length (lines_by worker (map (line_of script version) history)) ≡ length (entries_of worker history)
   length_by worker history = ap length (by-map worker history) ∙ length-map (entries_of worker history) (line_of script version)
 
-  module _ (history : List Entry) (lawful : IsLawful script history) where
-    module _ (before : List Entry) (entry : Entry) (after : List Entry) (split : history ≡ before ++ entry ∷ after) where
+  module _ (history : List (Entry Op Reply)) (lawful : IsLawful script history) where
+    module _ (before : List (Entry Op Reply)) (entry : Entry Op Reply) (after : List (Entry Op Reply)) (split : history ≡ before ++ entry ∷ after) where
       own_split : entries_of entry.caller history ≡ entries_of entry.caller before ++ entry ∷ entries_of entry.caller after
-      own_split = ap (entries_of entry.caller) split ∙ filter-append (λ (other : Entry). other.caller == entry.caller) before (entry ∷ after) ∙ rw (eq-eqb entry.caller entry.caller refl) refl
+      own_split = ap (entries_of entry.caller) split ∙ filter-append (λ (other : Entry Op Reply). other.caller == entry.caller) before (entry ∷ after) ∙ rw (eq-eqb entry.caller entry.caller refl) refl
 
       module _ (worker : WorkerLines) (found : slice_get script.workers entry.caller ≡ Some worker) where
         own_asked : IsAsked (call_lines worker.items) 0 (length (map deed_of (entries_of entry.caller before))) (deed_of entry)
@@ -105,7 +107,7 @@ module _ (script : Script) (version : ℕ) where
             omega (arith, done, length_by worker history, ap length (ap (λ (l : Option WorkerLines). option_map_or (λ (w : WorkerLines). call_lines w.items) l []) is))
 
 -- what holds behind the entries of a history holds behind its lines
-keeps_mapped : (script : Script) (version : ℕ) (history : List Entry) (place : ℕ) (entry : Entry) (rule : Rule) → Keeps script (map (line_of script version) (take place history)) (line_of script version entry) (map (line_of script version) (drop (place + 1) history)) rule → Keeps script (take place (map (line_of script version) history)) (line_of script version entry) (drop (place + 1) (map (line_of script version) history)) rule
+keeps_mapped : (script : Script) (version : ℕ) (history : List (Entry Op Reply)) (place : ℕ) (entry : Entry Op Reply) (rule : Rule) → Keeps script (map (line_of script version) (take place history)) (line_of script version entry) (map (line_of script version) (drop (place + 1) history)) rule → Keeps script (take place (map (line_of script version) history)) (line_of script version entry) (drop (place + 1) (map (line_of script version) history)) rule
 keeps_mapped script version history place entry rule keeps = rw (take-map (line_of script version) place history, drop-map (line_of script version) (place + 1) history) keeps
 
 pub caller_found : (workers : List WorkerLines) (caller : ℕ) → caller < length workers → (worker : WorkerLines) × (slice_get workers caller ≡ Some worker)
@@ -113,15 +115,15 @@ caller_found [] caller within = absurd (omega arith)
 caller_found (worker ∷ workers) zero within = (worker, refl)
 caller_found (worker ∷ workers) (suc caller) within = caller_found workers caller (omega arith)
 
-module _ (script : Script) (version : ℕ) (history : List Entry) (lawful : IsLawful script history) where
+module _ (script : Script) (version : ℕ) (history : List (Entry Op Reply)) (lawful : IsLawful script history) where
   abbrev told_lines : List RecordLine
   told_lines = map (line_of script version) history
 
   rules_kept : (place : ℕ) → KeepsAt script told_lines place Generations → (rule : Rule) → KeepsAt script told_lines place rule
   rules_kept place generations rule line there =
       let made = mapped script version history place line (slice_get history place) refl (sym (slice_get-map (line_of script version) history place) ∙ there) in
-      let split : history ≡ take place history ++ made.entry ∷ drop (place + 1) history = sym (take-append-drop place history) ∙ ap (λ (rest : List Entry). take place history ++ rest) (drop_at history place made.entry made.there) in
-      let own = caller_found script.workers made.entry.caller (All-at_split (λ (entry : Entry). entry.caller < length script.workers) history lawful.no_stranger (take place history) made.entry (drop (place + 1) history) split) in
+      let split : history ≡ take place history ++ made.entry ∷ drop (place + 1) history = sym (take-append-drop place history) ∙ ap (λ (rest : List (Entry Op Reply)). take place history ++ rest) (drop_at history place made.entry made.there) in
+      let own = caller_found script.workers made.entry.caller (All-at_split (λ (entry : Entry Op Reply). entry.caller < length script.workers) history lawful.no_stranger (take place history) made.entry (drop (place + 1) history) split) in
       let legal : IsLegalLine script (map (line_of script version) (take place history)) (line_of script version made.entry) (map (line_of script version) (drop (place + 1) history)) =
       legal_to script version (kinds_of script) (take place history) made.entry (drop (place + 1) history) (lawful.legal.legal (take place history) made.entry (drop (place + 1) history) split) in
       let there_is : slice_get told_lines place ≡ Some (line_of script version made.entry) = there ∙ ap (λ (l : RecordLine). Some l) (sym made.same) in
@@ -129,7 +131,7 @@ module _ (script : Script) (version : ℕ) (history : List Entry) (lawful : IsLa
       (lawful.legal.numbered (take place history) made.entry (drop (place + 1) history) split ∙ ap (λ (n : ℕ). n + 1) (sym (length-map (take place history) (line_of script version))))
       (next_line script version history lawful (take place history) made.entry (drop (place + 1) history) split own.0 own.1) legal line there
     where
-      keeps : (rule : Rule) (entry : Entry) → slice_get told_lines place ≡ Some (line_of script version entry) → entry.stamp ≡ length (map (line_of script version) (take place history)) + 1 → IsNextLine script (map (line_of script version) (take place history)) (line_of script version entry)
+      keeps : (rule : Rule) (entry : Entry Op Reply) → slice_get told_lines place ≡ Some (line_of script version entry) → entry.stamp ≡ length (map (line_of script version) (take place history)) + 1 → IsNextLine script (map (line_of script version) (take place history)) (line_of script version entry)
           → IsLegalLine script (map (line_of script version) (take place history)) (line_of script version entry) (map (line_of script version) (drop (place + 1) history)) → KeepsAt script told_lines place rule
       keeps Stamps entry here stamped next legal = keeps_at script told_lines place (line_of script version entry) here Stamps (keeps_mapped script version history place entry Stamps stamped)
       keeps Order entry here stamped next legal = keeps_at script told_lines place (line_of script version entry) here Order (keeps_mapped script version history place entry Order next)

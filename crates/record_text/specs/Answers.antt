@@ -17,7 +17,7 @@ reply_tokens replies.Zero = codes "zero" ∷ []
 reply_tokens replies.Gone = codes "gone" ∷ []
 
 -- an answer, of which a swap that was given up has none
-abbrev pub answer_tokens : Answer → List (List ℕ)
+abbrev pub answer_tokens : Answer Reply → List (List ℕ)
 answer_tokens (Replied reply) = reply_tokens reply
 answer_tokens (Swapped number) = codes "done" ∷ decimal number ∷ []
 answer_tokens (Busy number) = codes "busy" ∷ decimal number ∷ []

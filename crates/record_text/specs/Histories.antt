@@ -1,6 +1,8 @@
 -- The record of a history, and so its text.
 use Rattle.std.specs.Prelude.{ℕ, ◌<◌, ◌==◌, if◌then◌else◌, List, [], length, map, Option, Some, None, slice_get}
 use Rattle.std.specs.Option.{option_map_or}
+use Rattle.k42_kinds.specs.declared.operation.Op.{Op}
+use Rattle.k42_kinds.specs.declared.operation.Reply.{Reply}
 use Rattle.k42_kinds.specs.declared.entry.Entry.{Entry}
 use Rattle.script_text.specs.Lawful.{call_lines}
 use Rattle.script_text.specs.declared.script.CallLine.{CallLine}
@@ -22,17 +24,17 @@ line_number script worker index =
 
 -- the entry's caller is a worker of the script, and its index is the place of one of that worker's
 -- lines
-pub record HasLine (script : Script) (entry : Entry) : Type 0 where
+pub record HasLine (script : Script) (entry : Entry Op Reply) : Type 0 where
   pub caller : entry.caller < length script.workers
   pub index : entry.index < length (calls_of script entry.caller)
 
 -- what version 2 tells of an entry besides
-abbrev pub extra_of : ℕ → Entry → Option Extra
+abbrev pub extra_of : ℕ → Entry Op Reply → Option Extra
 extra_of version entry =
     if version == 2 then Some (record { proc = entry.proc; generation = entry.generation }) else None
 
 -- the line of an entry that answers the script's line of this number
-abbrev pub line_at : ℕ → ℕ → Entry → RecordLine
+abbrev pub line_at : ℕ → ℕ → Entry Op Reply → RecordLine
 line_at version number entry = record {
   stamp = entry.stamp;
   worker = entry.caller;
@@ -45,14 +47,14 @@ line_at version number entry = record {
 }
 
 -- the line of an entry
-abbrev pub line_of : Script → ℕ → Entry → RecordLine
+abbrev pub line_of : Script → ℕ → Entry Op Reply → RecordLine
 line_of script version entry = line_at version (line_number script entry.caller entry.index) entry
 
 -- the record of a history, one line for each entry in its order
-abbrev pub record_of : Script → List Entry → ℕ → Record
+abbrev pub record_of : Script → List (Entry Op Reply) → ℕ → Record
 record_of script history version =
     record { lines = map (line_of script version) history; version = version }
 
 -- the text of a history
-abbrev pub history_text : Script → List Entry → ℕ → List ℕ
+abbrev pub history_text : Script → List (Entry Op Reply) → ℕ → List ℕ
 history_text script history version = record_text script (record_of script history version)

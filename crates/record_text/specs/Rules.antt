@@ -1,5 +1,7 @@
 -- When a record is lawful for a script, and which line breaks which rule first.
 use Rattle.std.specs.Prelude.{◌≡◌, ◌⊎◌, ℕ, ◌+◌, ◌<◌, ◌≤◌, List, [], ◌∷◌, length, map, take, drop, Some, IfSome, Result, Ok, Err, slice_get}
+use Rattle.k42_kinds.specs.declared.operation.Op.{Op}
+use Rattle.k42_kinds.specs.declared.operation.Reply.{Reply}
 use Rattle.k42_kinds.specs.declared.entry.Act.{Act}
 use Rattle.k42_kinds.specs.declared.entry.Act.TheVariants.{Call, Swap}
 use Rattle.k42_kinds.specs.declared.entry.Answer.{Answer}
@@ -31,12 +33,12 @@ abbrev pub all_rules : List Rule
 all_rules = Stamps ∷ Order ∷ Calls ∷ Swaps ∷ Refusals ∷ Generations ∷ []
 
 -- which rule says whether a swap may be answered so
-abbrev pub rule_of_answer : Answer → Rule
+abbrev pub rule_of_answer : Answer Reply → Rule
 rule_of_answer (Busy number) = Refusals
 rule_of_answer _ = Swaps
 
 -- which rule says whether an act may be answered so
-abbrev pub rule_of_act : Act → Answer → Rule
+abbrev pub rule_of_act : Act Op → Answer Reply → Rule
 rule_of_act (Call op) answer = Calls
 rule_of_act (Swap to) answer = rule_of_answer answer
 
@@ -92,7 +94,7 @@ pub record KeepsRules (script : Script) (lines : List RecordLine) : Type 0 where
 -- A record is lawful where it is the record of a lawful history, and what version 2 tells besides
 -- are the workers' processors, and generations that do not fall and are one in each block.
 pub record IsLawfulRecord (script : Script) (written : Record) : Type 0 where
-  pub history : List Entry
+  pub history : List (Entry Op Reply)
   pub lawful : IsLawful script history
   pub same : written ≡ record_of script history written.version
   pub generations : (place : ℕ) → KeepsAt script written.lines place Generations

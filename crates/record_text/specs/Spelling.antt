@@ -1,6 +1,8 @@
 -- Which records have a text.
 use Rattle.std.specs.Prelude.{◌≡◌, ℕ, ◌<◌, ◌≤◌, ◌⊎◌, length, All, Option, Some, IsSome, IsNone, MatchOption, slice_get}
 use Rattle.k42_kinds.specs.declared.operation.KindName.{KindName}
+use Rattle.k42_kinds.specs.declared.operation.Op.{Op}
+use Rattle.k42_kinds.specs.declared.operation.Reply.{Reply}
 use Rattle.k42_kinds.specs.declared.entry.Act.{Act}
 use Rattle.k42_kinds.specs.declared.entry.Act.TheVariants.{Call, Swap}
 use Rattle.k42_kinds.specs.declared.entry.Answer.{Answer}
@@ -14,12 +16,12 @@ use Rattle.record_text.specs.declared.record.RecordLine.{RecordLine}
 use Rattle.record_text.specs.declared.record.Record.{Record}
 
 -- how a call may be answered
-abbrev pub EndsCall : Answer → Type 0
+abbrev pub EndsCall : Answer Reply → Type 0
 EndsCall (Replied reply) = Unit {0}
 EndsCall _ = ⊥
 
 -- how a swap may be answered: one that is under way has a number from 1
-abbrev pub EndsSwap : Answer → Type 0
+abbrev pub EndsSwap : Answer Reply → Type 0
 EndsSwap (Swapped number) = Unit {0}
 EndsSwap (Busy number) = 1 ≤ number
 EndsSwap Spent = Unit {0}
@@ -27,7 +29,7 @@ EndsSwap Gone = Unit {0}
 EndsSwap _ = ⊥
 
 -- the answer is one of the act, and none of an act that was given up
-abbrev pub Ends : Act → Answer → Type 0
+abbrev pub Ends : Act Op → Answer Reply → Type 0
 Ends (Call op) answer = EndsCall answer
 Ends (Swap to) answer = EndsSwap answer
 
@@ -41,7 +43,7 @@ pub record HasSpelling (script : Script) (line : RecordLine) : Type 0 where
   pub answered : Ends line.act line.answer
 
 -- a call has a generation, and a swap has none
-abbrev pub HasGeneration : Act → Option ℕ → Type 0
+abbrev pub HasGeneration : Act Op → Option ℕ → Type 0
 HasGeneration (Call op) generation = IsSome generation
 HasGeneration (Swap to) generation = IsNone generation
 

@@ -1,6 +1,8 @@
 -- What the lines of a record tell: of a history, of a script, and of the workers' generations.
 use Rattle.std.specs.Prelude.{◌≡◌, ◌≢◌, ℕ, ◌+◌, ◌≤◌, ◌==◌, List, [], ◌∷◌, map, filter, Option, Some, None, slice_get, slice_index_or}
 use Rattle.std.specs.Option.{option_map_or}
+use Rattle.k42_kinds.specs.declared.operation.Op.{Op}
+use Rattle.k42_kinds.specs.declared.operation.Reply.{Reply}
 use Rattle.k42_kinds.specs.declared.entry.Entry.{Entry}
 use Rattle.script_text.specs.declared.script.CallLine.{CallLine}
 use Rattle.script_text.specs.declared.script.Item.{Item}
@@ -10,7 +12,7 @@ use Rattle.record_text.specs.declared.record.Extra.{Extra}
 use Rattle.record_text.specs.declared.record.RecordLine.{RecordLine}
 
 -- The entry that a line tells of. What is 0 or none here plays no part in what is legal.
-abbrev pub told : RecordLine → Entry
+abbrev pub told : RecordLine → Entry Op Reply
 told line = record {
   stamp = line.stamp;
   caller = line.worker;

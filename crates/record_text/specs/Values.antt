@@ -22,7 +22,7 @@ FitsOperation (Unbind key) = is_name key ≡ true
 FitsOperation (Write page text) = is_text text ≡ true
 FitsOperation _ = Unit {0}
 
-abbrev pub FitsAct : Act → Type 0
+abbrev pub FitsAct : Act Op → Type 0
 FitsAct (Call op) = FitsOperation op
 FitsAct _ = Unit {0}
 
@@ -31,7 +31,7 @@ FitsReply (Number number) = number < 2 ^ 64
 FitsReply (Text text) = is_text text ≡ true
 FitsReply _ = Unit {0}
 
-abbrev pub FitsAnswer : Answer → Type 0
+abbrev pub FitsAnswer : Answer Reply → Type 0
 FitsAnswer (Replied reply) = FitsReply reply
 FitsAnswer (Swapped number) = number < 2 ^ 32
 FitsAnswer (Busy number) = number < 2 ^ 32

@@ -7,7 +7,7 @@ ghost use Rattle.record_text.specs.Printer.LineNumbers.{HasNumber, line_numbers,
 use crate::record::{Extra, Record, RecordLine};
 use crate::version::Version;
 use k42_items::Items;
-use k42_kinds::Entry;
+use k42_kinds::{Entry, Op, Reply};
 use k42_memory::Memory;
 use script_text::{Item, Script};
 use std::alloc::Global;
@@ -37,14 +37,14 @@ pub fn numbers_of_all(alloc: Global, script: &Script) -> Result<Items<Items<u32>
 }
 
 /// The number of the line that an entry answers.
-pub fn number_of(numbers: &Items<Items<u32>>, entry: &Entry) -> u32
+pub fn number_of(numbers: &Items<Items<u32>>, entry: &Entry<Op, Reply>) -> u32
     requires { HasNumber numbers.now entry.now.caller entry.now.index }
     ensures { result ≡ slice_index (numbers_at numbers.now entry.now.caller) entry.now.index }
 {
     numbers.as_slice()[entry.caller as usize].as_slice()[entry.index as usize]
 }
 
-fn extra_of(entry: &Entry, version: Version) -> Option<Extra>
+fn extra_of(entry: &Entry<Op, Reply>, version: Version) -> Option<Extra>
     ensures { result ≡ told.extra_of (version_number version) entry.now }
 {
     match version {
@@ -57,7 +57,7 @@ fn extra_of(entry: &Entry, version: Version) -> Option<Extra>
 }
 
 /// The line of an entry that answers the script's line of this number.
-pub fn line_at(entry: &Entry, number: u32, version: Version) -> RecordLine
+pub fn line_at(entry: &Entry<Op, Reply>, number: u32, version: Version) -> RecordLine
     ensures { result ≡ told.line_at (version_number version) number entry.now }
 {
     RecordLine {
@@ -76,7 +76,7 @@ pub fn line_at(entry: &Entry, number: u32, version: Version) -> RecordLine
 pub fn lines_of(
     alloc: Global,
     script: &Script,
-    entries: &Vec<Entry>,
+    entries: &Vec<Entry<Op, Reply>>,
     version: u32,
 ) -> Result<Record, Memory>
     requires version { IsVersion version }

@@ -1,5 +1,7 @@
 //! Laws of records: text and value belong to one another, and the rules make a record lawful.
 ghost use Rattle.std.specs.Prelude.{◌≡◌, ◌↔◌, ◌<◌, ◌^◌, ℕ, List, length, Ok, Err};
+ghost use Rattle.k42_kinds.specs.declared.operation.Op.{Op};
+ghost use Rattle.k42_kinds.specs.declared.operation.Reply.{Reply};
 ghost use Rattle.k42_kinds.specs.declared.entry.Entry.{Entry};
 ghost use Rattle.script_text.specs.Lawful.{IsLawful};
 ghost use Rattle.script_text.specs.Sound.{HasDistinctNames};
@@ -54,7 +56,7 @@ pub fn the_first_foreign_line_is_refused()
 
 /// Two lawful histories of one text are of one version, and the same but for what it does not show.
 pub fn a_text_has_one_history()
-    ensures { (script : Script) (one other : List Entry) (version other_version : ℕ) →
+    ensures { (script : Script) (one other : List (Entry Op Reply)) (version other_version : ℕ) →
         HasDistinctNames script → IsLawful script one → IsLawful script other →
         HasText script (record_of script one version) →
         FitsRecord (record_of script one version) →
@@ -66,7 +68,7 @@ pub fn a_text_has_one_history()
 
 /// What a text does not show makes no other text.
 pub fn alike_histories_have_one_text()
-    ensures { (script : Script) (version : ℕ) (one other : List Entry) →
+    ensures { (script : Script) (version : ℕ) (one other : List (Entry Op Reply)) →
         AreAlike version one other →
         history_text script one version ≡ history_text script other version }
 {}

@@ -19,7 +19,7 @@ use crate::record::{Extra, Record, RecordLine};
 use crate::version::Version;
 use k42_entries::Entries;
 use k42_items::Items;
-use k42_kinds::Entry;
+use k42_kinds::{Entry, Op, Reply};
 use k42_limits::LINE_FEED;
 use k42_memory::Memory;
 use script_text::{Script, put_digits};
@@ -131,7 +131,7 @@ fn put_entry(
     out: &mut Vec<u8>,
     script: &Script,
     numbers: &Items<Items<u32>>,
-    entry: &Entry,
+    entry: &Entry<Op, Reply>,
     version: Version,
 ) -> Result<(), Memory>
     requires numbers { numbers.now ≡ all_line_numbers script.now }
@@ -146,7 +146,7 @@ fn put_entry(
 }
 
 /// The text of a history: that of the record that `lines_of` gives. One entry is held at a time.
-pub fn print_history<E: Entries + Drop>(
+pub fn print_history<E: Entries<Op, Reply> + Drop>(
     alloc: Global,
     script: &Script,
     mut entries: E,

@@ -2,7 +2,7 @@
 ghost use Rattle.std.specs.Prelude.{◌≡◌, [], ◌∷◌, ◌++◌, OnOk};
 
 use k42_items::Items;
-use k42_kinds::{Act, Answer};
+use k42_kinds::{Act, Answer, Op, Reply};
 use k42_memory::Memory;
 
 /// What a record of version 2 tells of an entry besides.
@@ -25,8 +25,8 @@ pub struct RecordLine {
     pub line: u32,
     /// The object, by its place among the script's objects, from 0.
     pub object: u32,
-    pub act: Act,
-    pub answer: Answer,
+    pub act: Act<Op>,
+    pub answer: Answer<Reply>,
     /// In which implementation of the object it was answered, counted from 0.
     pub incarnation: u32,
     /// `None` in a record of version 1, and `Some` in one of version 2.

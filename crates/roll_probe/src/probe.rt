@@ -7,7 +7,7 @@ ghost use Rattle.swap_future.specs.Rolling.{IsRolling, seen};
 
 use futures::executor::block_on;
 use k42_crews::{close, start};
-use k42_kinds::{Answer, Entry, KindName, LayoutName, To};
+use k42_kinds::{Answer, Entry, KindName, LayoutName, Op, Reply, To};
 use k42_memory::Memory;
 use k42_runtime::{History, Keep, NoSwap, ObjectPlan, Pass, Plan, Swapped, System};
 use std::alloc::{AllocGlobal, Global};
@@ -54,7 +54,7 @@ fn plan_of(alloc: Global) -> Result<Vec<(u32, To)>, Memory>
     Ok(plan)
 }
 
-fn tells_of_giving_up(entry: &Entry) -> bool {
+fn tells_of_giving_up(entry: &Entry<Op, Reply>) -> bool {
     matches!(entry.answer, Answer::Abandoned(_))
 }
 

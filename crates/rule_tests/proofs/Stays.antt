@@ -19,7 +19,7 @@ length_made f first zero = refl
 length_made f first (suc many) = ap suc (length_made f (suc first) many)
 
 -- where it has tried to take the role
-pub free_taken : {L P : Type 0} (sys : SysSeen L) (old new : PassSeen P) (found : ℕ) → HoldsNoCell sys old → IsSamePass old new
+pub free_taken : {L P O R : Type 0} (sys : SysSeen L) (old new : PassSeen P O R) (found : ℕ) → HoldsNoCell sys old → IsSamePass old new
     → new.view ≡ took TakeRole role_word found (role_view found old.view) → HoldsNoCell sys new
 free_taken sys old new found is same e = free_alike sys old new is same.table same.queue same.keep (subst (IsAlike old.view) (sym e) (go (eqb found 0) refl)) where
   go : (b : Bool) → eqb found 0 ≡ b → IsAlike old.view (took TakeRole role_word found (role_view found old.view))
@@ -46,7 +46,7 @@ freed_noted x o found n = go (nat_lt found n) where
   go false = refl
 
 -- where it has freed the rows of an object
-pub free_freed : {L P : Type 0} (sys : SysSeen L) (old new : PassSeen P) (o found : ℕ) → HoldsNoCell sys old → IsSamePass old new
+pub free_freed : {L P O R : Type 0} (sys : SysSeen L) (old new : PassSeen P O R) (o found : ℕ) → HoldsNoCell sys old → IsSamePass old new
     → new.view ≡ took Free (freed_word o) found (freed_view o found old.view) → HoldsNoCell sys new
 free_freed sys old new o found is same e =
     free_alike sys old new is same.table same.queue same.keep (subst (IsAlike old.view) (sym e) (record {
@@ -59,7 +59,7 @@ free_freed sys old new o found is same e =
     }))
 
 -- where it has given the role back
-pub free_given : {L P : Type 0} (sys : SysSeen L) (old new : PassSeen P) → HoldsNoCell sys old → HasGiven old new
+pub free_given : {L P O R : Type 0} (sys : SysSeen L) (old new : PassSeen P O R) → HoldsNoCell sys old → HasGiven old new
     → new.view ≡ took GiveRole role_word 0 (given_view old.view) → HoldsNoCell sys new
 free_given sys old new is given e =
     free_alike sys old new is given.table given.queue given.keep (subst (IsAlike old.view) (sym e) (record {

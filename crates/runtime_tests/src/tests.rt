@@ -22,7 +22,7 @@ mod waiting;
 mod watching;
 
 /// Whether the entries have just these answers, in this order.
-fn are_answered(entries: &[Entry], due: &[Answer]) -> bool {
+fn are_answered(entries: &[Entry<Op, Reply>], due: &[Answer<Reply>]) -> bool {
     if entries.len() != due.len() {
         return false;
     }
@@ -35,7 +35,7 @@ fn are_answered(entries: &[Entry], due: &[Answer]) -> bool {
 }
 
 /// Whether the entries tell just this, in this order.
-fn are_told(entries: &[Entry], due: &[Deed]) -> bool {
+fn are_told(entries: &[Entry<Op, Reply>], due: &[Deed]) -> bool {
     if entries.len() != due.len() {
         return false;
     }

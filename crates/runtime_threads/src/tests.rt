@@ -43,12 +43,12 @@ fn ask_last<R: Abort + Wait>(
     assert!(rt; reply == Some(due));
 }
 
-fn is_swap(entry: &Entry) -> bool {
+fn is_swap(entry: &Entry<Op, Reply>) -> bool {
     matches!(entry.answer, Answer::Swapped(_))
 }
 
 /// Whether these are the entries of the calls and as many swaps, and end with a call of the last implementation.
-fn are_whole(entries: &[Entry], swaps: usize) -> bool {
+fn are_whole(entries: &[Entry<Op, Reply>], swaps: usize) -> bool {
     let Some(last) = entries.last() else {
         return false;
     };

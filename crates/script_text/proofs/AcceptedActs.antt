@@ -69,11 +69,11 @@ module _ where
   op_range_from Clean range = (refl, refl)
   op_range_from Seen range = (refl, refl)
 
-range_when : (act : Act) → HasShortNumbers act → lacks_number (act_said act) ≡ false → lacks_word (act_said act) ≡ false → IsInRange act
+range_when : (act : Act Op) → HasShortNumbers act → lacks_number (act_said act) ≡ false → lacks_word (act_said act) ≡ false → IsInRange act
 range_when (Call op) short numbers words = op_range_when op short numbers words
 range_when (Swap to) short numbers words = tt
 
-range_from : (act : Act) → IsInRange act → (lacks_number (act_said act) ≡ false) × (lacks_word (act_said act) ≡ false)
+range_from : (act : Act Op) → IsInRange act → (lacks_number (act_said act) ≡ false) × (lacks_word (act_said act) ≡ false)
 range_from (Call op) range = op_range_from op range
 range_from (Swap to) range = (refl, refl)
 
@@ -107,11 +107,11 @@ page_named Clean range = tt
 page_named Seen range = tt
 
 -- an object of this kind takes the act where no test finds that another kind is asked
-takes_when : (kind : KindName) (act : Act) → IsInRange act → is_another_kind (kind_asked (act_said act)) (Some kind) ≡ false → IsActOn kind act
+takes_when : (kind : KindName) (act : Act Op) → IsInRange act → is_another_kind (kind_asked (act_said act)) (Some kind) ≡ false → IsActOn kind act
 takes_when kind (Call op) range own = (not-false _ (rw (another_kind-op kind op) at own), page_named op range)
 takes_when kind (Swap to) range own = tt
 
-takes_from : (kind : KindName) (act : Act) → IsActOn kind act → is_another_kind (kind_asked (act_said act)) (Some kind) ≡ false
+takes_from : (kind : KindName) (act : Act Op) → IsActOn kind act → is_another_kind (kind_asked (act_said act)) (Some kind) ≡ false
 takes_from kind (Call op) takes = rw (another_kind-op kind op, takes.0) refl
 takes_from kind (Swap to) takes = refl
 
@@ -155,7 +155,7 @@ module _ (script : Script) (name : List ℕ) where
   named_at place object there named = slice_get-map (λ (line : ObjectLine). line.name) script.objects place ∙ ap (option_map (λ (line : ObjectLine). line.name)) there ∙ ap Some named
 
   -- where the test finds the object, it takes the act
-  takes_here : (act : Act) → IsInRange act → is_among (object_names script) (Some name) ≡ true → is_another_kind (kind_asked (act_said act)) (kind_of_named script (Some name)) ≡ false → Any (TakesAct name act) script.objects
+  takes_here : (act : Act Op) → IsInRange act → is_among (object_names script) (Some name) ≡ true → is_another_kind (kind_asked (act_said act)) (kind_of_named script (Some name)) ≡ false → Any (TakesAct name act) script.objects
   takes_here act range any own =
       let found = finds any in
       let own_kind : is_another_kind (kind_asked (act_said act)) (Some found.object.kind) ≡ false = rw found.kind at own in (
@@ -167,7 +167,7 @@ module _ (script : Script) (name : List ℕ) where
       )
 
   -- and where one takes it, the test finds that one, since names differ
-  taken_here : (act : Act) → AreDistinct (object_names script) → Any (TakesAct name act) script.objects
+  taken_here : (act : Act Op) → AreDistinct (object_names script) → Any (TakesAct name act) script.objects
       → (is_among (object_names script) (Some name) ≡ true) × (is_another_kind (kind_asked (act_said act)) (kind_of_named script (Some name)) ≡ false)
   taken_here act distinct some =
       let place : ℕ = some.0 in
@@ -202,7 +202,7 @@ call_said Clean = refl
 call_said Seen = refl
 
 -- outside of activities anything may be asked, and inside any call
-in_place_when : (script : Script) (act : Act) → (is_in_block script ≡ false → IsOutside script) → (is_in_block script && is_swap (act_said act)) ≡ false → IsCall act ⊎ IsOutside script
+in_place_when : (script : Script) (act : Act Op) → (is_in_block script ≡ false → IsOutside script) → (is_in_block script && is_swap (act_said act)) ≡ false → IsCall act ⊎ IsOutside script
 in_place_when script (Call op) outside kept = inl tt
 in_place_when script (Swap to) outside kept = inr (outside (not_inside (is_in_block script) kept))
   where
@@ -210,7 +210,7 @@ in_place_when script (Swap to) outside kept = inr (outside (not_inside (is_in_bl
     not_inside true e = e
     not_inside false e = refl
 
-in_place_from : (script : Script) (act : Act) → IsCall act ⊎ IsOutside script → (is_in_block script && is_swap (act_said act)) ≡ false
+in_place_from : (script : Script) (act : Act Op) → IsCall act ⊎ IsOutside script → (is_in_block script && is_swap (act_said act)) ≡ false
 in_place_from script (Call op) (inl call) = and_right (is_in_block script) (is_swap (op_said op)) (call_said op)
 in_place_from script (Swap to) (inl call) = absurd call
 in_place_from script act (inr outside) = and_left (is_in_block script) (is_swap (act_said act)) (outside_from script outside)
@@ -227,12 +227,12 @@ some_processor next script sound some = by script.procs refl
 named_word : (names : List (List ℕ)) (word : List ℕ) → is_among names (name_of word) ≡ true → is_name word ≡ true
 named_word names word = elim (is_name word) as (λ b. is_among names (cond b (Some word) None) ≡ true → b ≡ true) [ true ↦ λ there. refl | false ↦ λ there. there ]
 
-declared_word : (script : Script) (name : List ℕ) (act : Act) → All (λ object. IsFreeName object.name) script.objects → Any (TakesAct name act) script.objects → is_name name ≡ true
+declared_word : (script : Script) (name : List ℕ) (act : Act Op) → All (λ object. IsFreeName object.name) script.objects → Any (TakesAct name act) script.objects → is_name name ≡ true
 declared_word script name act free some =
     let own : IsFreeName some.1.name = subst (λ (object : ObjectLine). IsFreeName object.name) some.3 (All-get_or (λ (object : ObjectLine). IsFreeName object.name) script.objects some.0 some.1 some.2 free) in
     subst (λ (word : List ℕ). is_name word ≡ true) some.4.named own.formed
 
-pub accepted_act : (before : List (List ℕ)) (name : List ℕ) (act : Act) → BeginsCall name → HasShortNumbers act → IsAcceptedWhere before (act_tokens name act) (MayAsk (script_after before) name act)
+pub accepted_act : (before : List (List ℕ)) (name : List ℕ) (act : Act Op) → BeginsCall name → HasShortNumbers act → IsAcceptedWhere before (act_tokens name act) (MayAsk (script_after before) name act)
 accepted_act before name act begins short = accepted_where before (act_tokens name act) (forms.Asks (name_of name) (act_said act)) (MayAsk script name act) (act_says name act begins.said) (form_of-act script.procs name act begins.free) (λ sound are. (
   λ passes.
       let range = range_when act short passes.numbers passes.words in

@@ -3,6 +3,7 @@
 use Rattle.std.proofs.Common.{◌≡◌, ℕ, true, List, [], ◌∷◌, refl}
 use Rattle.std.proofs.lemmas.Bool.{false≢true}
 use Rattle.std.specs.Prelude.{Option, Some, None, codes}
+use Rattle.k42_kinds.specs.declared.operation.Op.{Op}
 use Rattle.k42_kinds.specs.declared.entry.Act.{Act}
 use Rattle.k42_kinds.specs.declared.entry.Act.TheVariants as acts
 use Rattle.k42_kinds.specs.declared.entry.To.TheVariants.{Watch, Unwatch}
@@ -50,7 +51,7 @@ size_of_counter : IsActOn Counter (acts.Call operations.Size) → ⊥
 size_of_counter asked = false≢true asked.0
 
 -- the count is asked for in an activity, and no layer is placed or taken away in one
-abbrev asks : Act → Item
+abbrev asks : Act Op → Item
 asks act = Line (record { line = 5; object = 0; act = act })
 
 seen_inside : BlocksMatch true (asks (acts.Call operations.Seen) ∷ []) true

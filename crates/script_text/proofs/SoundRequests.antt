@@ -28,7 +28,7 @@ use Rattle.script_text.proofs.SoundForms.{HasPage, IsFormed, IsProcs}
 use Rattle.script_text.proofs.SoundSteps.{IsSoundSoFar, same_script, keeps_procs, keeps_object, keeps_worker, keeps_item}
 
 -- An act may be asked of an object of this kind, where its request does not ask for another kind.
-module _ (kind : KindName) (act : Act) where
+module _ (kind : KindName) (act : Act Op) where
   called : (op : Op) → Some (acts.Call op) ≡ Some act → not ((watched_object kind).takes op) ≡ false → NamesPage op → IsActOn kind act
   called op spells takes page = subst (IsActOn kind) (same_Some (acts.Call op) act spells) (not-false ((watched_object kind).takes op) takes, page)
 
@@ -58,7 +58,7 @@ module _ (kind : KindName) (act : Act) where
   act_of-asked Seen spells page same = called _ spells refl tt
 
 -- a request that is no swap spells a call
-swap_or_call : (request : Request) (act : Act) → act_of request ≡ Some act → (is_swap request ≡ true) ⊎ IsCall act
+swap_or_call : (request : Request) (act : Act Op) → act_of request ≡ Some act → (is_swap request ≡ true) ⊎ IsCall act
 swap_or_call (Swap to) act spells = inl refl
 swap_or_call (Add None) act spells = absurd (none-some act spells)
 swap_or_call (Add (Some amount)) act spells = inr (subst IsCall (same_Some _ act spells) tt)
@@ -84,7 +84,7 @@ swap_or_call Clean act spells = inr (subst IsCall (same_Some _ act spells) tt)
 swap_or_call Seen act spells = inr (subst IsCall (same_Some _ act spells) tt)
 
 -- in an activity, a request that breaks no block spells a call
-call_in_block : (in_block swap : Bool) (act : Act) → (swap ≡ true) ⊎ IsCall act → (in_block && swap) ≡ false → in_block ≡ true → IsCall act
+call_in_block : (in_block swap : Bool) (act : Act Op) → (swap ≡ true) ⊎ IsCall act → (in_block && swap) ≡ false → in_block ≡ true → IsCall act
 call_in_block in_block swap act (inl is_swap) kept inside = absurd cc
 call_in_block in_block swap act (inr is_call) kept inside = is_call
 
@@ -107,7 +107,7 @@ pub record Passes (script : Script) (form : Form) : Type 0 where
   pub in_place : breaks_block script form ≡ false
 
 module _ (next : ℕ) (script : Script) (sound : IsSoundSoFar next script) (some : script.procs ≡ 0 → ⊥) (object : Option (List ℕ)) (request : Request) (page : HasPage request) (passes : Passes script (forms.Asks object request)) where
-  keeps_call : (place : Option ℕ) (act : Option Act) → place_among (object_names script) object ≡ place → act_of request ≡ act → IsSoundSoFar (next + 1) (with_call script next place act)
+  keeps_call : (place : Option ℕ) (act : Option (Act Op)) → place_among (object_names script) object ≡ place → act_of request ≡ act → IsSoundSoFar (next + 1) (with_call script next place act)
   keeps_call None None found spells = same_script next script sound
   keeps_call None (Some act) found spells = same_script next script sound
   keeps_call (Some place) None found spells = same_script next script sound

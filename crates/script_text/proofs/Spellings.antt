@@ -219,30 +219,30 @@ act_of-op Dirty in_range = refl
 act_of-op Clean in_range = refl
 act_of-op Seen in_range = refl
 
-abbrev pub act_said : Act → Request
+abbrev pub act_said : Act Op → Request
 act_said (Call op) = op_said op
 act_said (Swap to) = requests.Swap to
 
-act_of-act : (act : Act) → IsInRange act → act_of (act_said act) ≡ Some act
+act_of-act : (act : Act Op) → IsInRange act → act_of (act_said act) ≡ Some act
 act_of-act (Call op) in_range = act_of-op op in_range
 act_of-act (Swap to) in_range = refl
 
 -- a line that asks something of an object, as its tokens, which are no remark
-pub act_says : (name : List ℕ) (act : Act) → is_remark name ≡ false → says_nothing (act_tokens name act) ≡ false
+pub act_says : (name : List ℕ) (act : Act Op) → is_remark name ≡ false → says_nothing (act_tokens name act) ≡ false
 act_says name (Call op) said = said
 act_says name (Swap (Layout layout)) said = refl
 act_says name (Swap Dead) said = refl
 act_says name (Swap Watch) said = refl
 act_says name (Swap Unwatch) said = refl
 
-all_tokens : (name : List ℕ) (act : Act) → IsFreeName name → IsInRange act → AllByRecursion IsToken (act_tokens name act)
+all_tokens : (name : List ℕ) (act : Act Op) → IsFreeName name → IsInRange act → AllByRecursion IsToken (act_tokens name act)
 all_tokens name (Call op) free in_range = (token_name name free.formed, op_tokens op in_range)
 all_tokens name (Swap (Layout layout)) free in_range = (refl, (token_name name free.formed, (layout_token layout, tt)))
 all_tokens name (Swap Dead) free in_range = (refl, (token_name name free.formed, tt))
 all_tokens name (Swap Watch) free in_range = (refl, (token_name name free.formed, tt))
 all_tokens name (Swap Unwatch) free in_range = (refl, (token_name name free.formed, tt))
 
-pub form_of-act : (procs : ℕ) (name : List ℕ) (act : Act) → is_reserved name ≡ false → form_of procs (act_tokens name act) ≡ Some (forms.Asks (name_of name) (act_said act))
+pub form_of-act : (procs : ℕ) (name : List ℕ) (act : Act Op) → is_reserved name ≡ false → form_of procs (act_tokens name act) ≡ Some (forms.Asks (name_of name) (act_said act))
 form_of-act procs name (Call op) free = rw (head_of-free name free, request_of-op op) refl
 form_of-act procs name (Swap (Layout layout)) free = rw (layout_named-word layout) refl
 form_of-act procs name (Swap Dead) free = refl
@@ -252,11 +252,11 @@ form_of-act procs name (Swap Unwatch) free = refl
 pub name_of-name : (name : List ℕ) → is_name name ≡ true → name_of name ≡ Some name
 name_of-name name formed = rw formed refl
 
-form_of-named : (procs : ℕ) (name : List ℕ) (act : Act) → IsFreeName name → form_of procs (act_tokens name act) ≡ Some (forms.Asks (Some name) (act_said act))
+form_of-named : (procs : ℕ) (name : List ℕ) (act : Act Op) → IsFreeName name → form_of procs (act_tokens name act) ≡ Some (forms.Asks (Some name) (act_said act))
 form_of-named procs name act free = form_of-act procs name act free.free ∙ ap (λ given. Some (forms.Asks given (act_said act))) (name_of-name name free.formed)
 
 -- a line that asks something of an object
-pub act_line : (script : Script) (number place : ℕ) (name : List ℕ) (act : Act) → IsFreeName name → place_among (object_names script) (Some name) ≡ Some place → IsInRange act → with_line script number (spaced (act_tokens name act)) ≡ with_last_item script (items.Line (record { line = number; object = place; act = act }))
+pub act_line : (script : Script) (number place : ℕ) (name : List ℕ) (act : Act Op) → IsFreeName name → place_among (object_names script) (Some name) ≡ Some place → IsInRange act → with_line script number (spaced (act_tokens name act)) ≡ with_last_item script (items.Line (record { line = number; object = place; act = act }))
 act_line script number place name act free declared in_range =
     with_line-spaced script number (act_tokens name act) (all_tokens name act free in_range) (act_says name act (says-name name free.formed))
     ∙ rw (form_of-named script.procs name act free, declared, act_of-act act in_range) refl
@@ -266,19 +266,19 @@ said_name : Option Form → Option (List ℕ)
 said_name (Some (forms.Asks object request)) = object
 said_name _ = None
 
-said_act : Option Form → Option Act
+said_act : Option Form → Option (Act Op)
 said_act (Some (forms.Asks object request)) = act_of request
 said_act _ = None
 
 form_of_text : List ℕ → Option Form
 form_of_text text = form_of 1 (tokens_of text)
 
-form_of_text-act : (name : List ℕ) (act : Act) → IsFreeName name → IsInRange act → form_of_text (spaced (act_tokens name act)) ≡ Some (forms.Asks (Some name) (act_said act))
+form_of_text-act : (name : List ℕ) (act : Act Op) → IsFreeName name → IsInRange act → form_of_text (spaced (act_tokens name act)) ≡ Some (forms.Asks (Some name) (act_said act))
 unfolding form_of_text
 form_of_text-act name act free in_range = rw (tokens_of-spaced (act_tokens name act) (all_tokens name act free in_range)) (form_of-named 1 name act free)
 
 -- two acts of one spelling are one, on one object
-pub act_spelling : (name other : List ℕ) (act another : Act) → IsFreeName name → IsFreeName other → IsInRange act → IsInRange another → spaced (act_tokens name act) ≡ spaced (act_tokens other another) → (name ≡ other) × (act ≡ another)
+pub act_spelling : (name other : List ℕ) (act another : Act Op) → IsFreeName name → IsFreeName other → IsInRange act → IsInRange another → spaced (act_tokens name act) ≡ spaced (act_tokens other another) → (name ≡ other) × (act ≡ another)
 unfolding said_name said_act
 act_spelling name other act another free free_other in_range other_in_range same =
     let forms_same = sym (form_of_text-act name act free in_range) ∙ ap form_of_text same ∙ form_of_text-act other another free_other other_in_range in (

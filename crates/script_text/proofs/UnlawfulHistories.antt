@@ -3,7 +3,9 @@ use Rattle.std.proofs.Common.{ℕ, List, [], ◌∷◌, map, refl, ap, arith}
 use Rattle.std.specs.Prelude.{codes}
 use Rattle.k42_kinds.specs.declared.operation.KindName.TheVariants.{Counter}
 use Rattle.k42_kinds.specs.declared.operation.LayoutName.TheVariants.{Shared, Spread}
+use Rattle.k42_kinds.specs.declared.operation.Op.{Op}
 use Rattle.k42_kinds.specs.declared.operation.Op.TheVariants.{Add, Get}
+use Rattle.k42_kinds.specs.declared.operation.Reply.{Reply}
 use Rattle.k42_kinds.specs.declared.operation.Reply.TheVariants.{Done, Number}
 use Rattle.k42_kinds.specs.declared.entry.Act.{Act}
 use Rattle.k42_kinds.specs.declared.entry.Act.TheVariants.{Call, Swap}
@@ -21,7 +23,7 @@ use Rattle.script_text.specs.declared.script.Script.{Script}
 use Rattle.script_text.specs.declared.script.WorkerLines.{WorkerLines}
 use Rattle.script_text.specs.Lawful.{IsLawful, Deed}
 
-abbrev asks : ℕ → ℕ → Act → Item
+abbrev asks : ℕ → ℕ → Act Op → Item
 asks number object act = Line (record { line = number; object = object; act = act })
 
 abbrev worker : List ℕ → List Item → WorkerLines
@@ -37,7 +39,7 @@ adder = worker (codes "a") (asks 5 0 (Call (Add 5)) ∷ asks 6 1 (Call Get) ∷ 
 abbrev two_counters : Script
 two_counters = record { procs = 1; objects = counter (codes "hits") ∷ counter (codes "more") ∷ []; workers = adder ∷ [] }
 
-abbrev added : Entry
+abbrev added : Entry Op Reply
 added = line 1 0 0 0 (Call (Add 5)) (Replied Done)
 
 not_legal : IsLawful two_counters (added ∷ on 1 (line 2 0 1 0 (Call Get) (Replied (Number 5))) ∷ []) → ⊥
@@ -62,10 +64,10 @@ swapper name number = worker name (asks number 0 (Swap (Layout Spread)) ∷ [])
 abbrev two_swaps : Script
 two_swaps = record { procs = 1; objects = counter (codes "hits") ∷ []; workers = swapper (codes "a") 4 ∷ swapper (codes "b") 6 ∷ [] }
 
-abbrev one_refusal : Entry
+abbrev one_refusal : Entry Op Reply
 one_refusal = line 1 0 0 0 (Swap (Layout Spread)) (Busy 1)
 
-abbrev other_refusal : Entry
+abbrev other_refusal : Entry Op Reply
 other_refusal = line 2 1 0 0 (Swap (Layout Spread)) (Busy 1)
 
 refused_both : IsLawful two_swaps (one_refusal ∷ other_refusal ∷ []) → ⊥

@@ -3,6 +3,8 @@ use Rattle.std.proofs.Common.{◌≡◌, ℕ, ◌+◌, List, [], ◌∷◌, ◌+
 use Rattle.std.specs.Prelude.{◌↔◌}
 use Rattle.std.specs.List.{AllZip}
 use Rattle.k42_kinds.specs.Histories.{entries_of, unstamped}
+use Rattle.k42_kinds.specs.declared.operation.Op.{Op}
+use Rattle.k42_kinds.specs.declared.operation.Reply.{Reply}
 use Rattle.k42_kinds.specs.declared.entry.Entry.{Entry}
 use Rattle.k42_kinds.proofs.Splits.{heads, no_split}
 use Rattle.script_text.specs.Lawful.{Deed, deed_of, deeds_from, call_lines, IsOfLine, DoesInOrder, DoesItsLines}
@@ -13,7 +15,7 @@ deed_at : ℕ → CallLine → Deed
 deed_at index line = record { index = index; object = line.object; act = line.act }
 
 -- the entries have the objects and the acts of the lines, and count on from an index
-zip_from : (index : ℕ) (lines : List CallLine) (entries : List Entry) → map deed_of entries ≡ deeds_from index lines → AllZip IsOfLine lines entries
+zip_from : (index : ℕ) (lines : List CallLine) (entries : List (Entry Op Reply)) → map deed_of entries ≡ deeds_from index lines → AllZip IsOfLine lines entries
 unfolding deed_at
 zip_from index [] [] same = tt
 zip_from index [] (entry ∷ entries) same = cc
@@ -22,23 +24,23 @@ zip_from index (line ∷ lines) (entry ∷ entries) same =
     let parts = heads (deed_of entry) (deed_at index line) (map deed_of entries) (deeds_from (index + 1) lines) same in
     (record { object = ap (λ (deed : Deed). deed.object) parts.head; act = ap (λ (deed : Deed). deed.act) parts.head }, zip_from (index + 1) lines entries parts.tail)
 
-counted_from : (index : ℕ) (lines : List CallLine) (entries : List Entry) → map deed_of entries ≡ deeds_from index lines
-    → (before : List Entry) (entry : Entry) (after : List Entry) → entries ≡ before ++ entry ∷ after → entry.index ≡ index + length before
+counted_from : (index : ℕ) (lines : List CallLine) (entries : List (Entry Op Reply)) → map deed_of entries ≡ deeds_from index lines
+    → (before : List (Entry Op Reply)) (entry : Entry Op Reply) (after : List (Entry Op Reply)) → entries ≡ before ++ entry ∷ after → entry.index ≡ index + length before
 unfolding deed_at
 counted_from index lines [] same before entry after split = absurd (no_split before entry after split)
 counted_from index [] (first ∷ entries) same before entry after split = cc
 counted_from index (line ∷ lines) (first ∷ entries) same [] entry after split =
     let parts = heads (deed_of first) (deed_at index line) (map deed_of entries) (deeds_from (index + 1) lines) same in
     let cut = heads first entry entries after split in
-    omega (arith, ap (λ (deed : Deed). deed.index) parts.head, ap (λ (one : Entry). one.index) cut.head)
+    omega (arith, ap (λ (deed : Deed). deed.index) parts.head, ap (λ (one : Entry Op Reply). one.index) cut.head)
 counted_from index (line ∷ lines) (first ∷ entries) same (other ∷ before) entry after split =
     let parts = heads (deed_of first) (deed_at index line) (map deed_of entries) (deeds_from (index + 1) lines) same in
     let cut = heads first other entries (before ++ entry ∷ after) split in
     let later = counted_from (index + 1) lines entries parts.tail before entry after cut.tail in
     omega (arith, later)
 
-deeds_back : (index : ℕ) (lines : List CallLine) (entries : List Entry) → AllZip IsOfLine lines entries
-    → ((before : List Entry) (entry : Entry) (after : List Entry) → entries ≡ before ++ entry ∷ after → entry.index ≡ index + length before) → map deed_of entries ≡ deeds_from index lines
+deeds_back : (index : ℕ) (lines : List CallLine) (entries : List (Entry Op Reply)) → AllZip IsOfLine lines entries
+    → ((before : List (Entry Op Reply)) (entry : Entry Op Reply) (after : List (Entry Op Reply)) → entries ≡ before ++ entry ∷ after → entry.index ≡ index + length before) → map deed_of entries ≡ deeds_from index lines
 unfolding deed_at
 deeds_back index [] [] of_lines counted = refl
 deeds_back index [] (entry ∷ entries) of_lines counted = absurd of_lines
@@ -46,14 +48,14 @@ deeds_back index (line ∷ lines) [] of_lines counted = absurd of_lines
 deeds_back index (line ∷ lines) (entry ∷ entries) of_lines counted =
     let here : entry.index ≡ index = omega (arith, counted [] entry entries refl) in
     let rest = deeds_back (index + 1) lines entries of_lines.1 (λ before later after split.
-    omega (arith, counted (entry ∷ before) later after (ap (λ (more : List Entry). entry ∷ more) split))) in
+    omega (arith, counted (entry ∷ before) later after (ap (λ (more : List (Entry Op Reply)). entry ∷ more) split))) in
     rw (here, of_lines.0.object, of_lines.0.act, rest) refl
 
-unstamped_deeds : (entries : List Entry) → map deed_of (map unstamped entries) ≡ map deed_of entries
+unstamped_deeds : (entries : List (Entry Op Reply)) → map deed_of (map unstamped entries) ≡ map deed_of entries
 unstamped_deeds [] = refl
 unstamped_deeds (entry ∷ entries) = ap (λ (rest : List Deed). deed_of entry ∷ rest) (unstamped_deeds entries)
 
-pub lines_in_order : (history : List Entry) (number : ℕ) (worker : WorkerLines) → DoesItsLines history number worker ↔ DoesInOrder history number (call_lines worker.items)
+pub lines_in_order : (history : List (Entry Op Reply)) (number : ℕ) (worker : WorkerLines) → DoesItsLines history number worker ↔ DoesInOrder history number (call_lines worker.items)
 lines_in_order history number worker = (
   λ does. record {
     list = entries_of number history;

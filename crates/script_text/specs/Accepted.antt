@@ -2,6 +2,7 @@
 use Rattle.std.specs.Prelude.{◌≡◌, ◌≢◌, ℕ, ◌+◌, ◌<◌, ◌≤◌, ◌^◌, ◌⊎◌, ◌↔◌, true, false, List, length, None, All, Any}
 use Rattle.std.specs.List.{list_all}
 use Rattle.k42_kinds.specs.Words.{is_visible}
+use Rattle.k42_kinds.specs.declared.operation.Op.{Op}
 use Rattle.k42_kinds.specs.declared.entry.Act.{Act}
 use Rattle.k42_kinds.specs.declared.entry.Act.TheVariants.{Call}
 use Rattle.k42_kinds.specs.declared.operation.Op.TheVariants.{Add, Bind, Write, Read}
@@ -80,14 +81,14 @@ pub record MayEnd (script : Script) : Type 0 where
   pub inside : IsInside script
 
 -- the object has this name, and its kind takes the act
-pub record TakesAct (name : List ℕ) (act : Act) (object : ObjectLine) : Type 0 where
+pub record TakesAct (name : List ℕ) (act : Act Op) (object : ObjectLine) : Type 0 where
   pub named : object.name ≡ name
   pub takes : IsActOn object.kind act
 
 -- Processors are declared, the object is declared and its kind takes the act, each number, key and
 -- text is in its range, a worker stands before, there is room for a line more that asks something,
 -- and no swap stands in an open activity.
-pub record MayAsk (script : Script) (name : List ℕ) (act : Act) : Type 0 where
+pub record MayAsk (script : Script) (name : List ℕ) (act : Act Op) : Type 0 where
   pub processors : 0 < script.procs
   pub declared : Any (TakesAct name act) script.objects
   pub in_range : IsInRange act
@@ -101,7 +102,7 @@ pub record BeginsCall (word : List ℕ) : Type 0 where
   pub said : is_remark word ≡ false
 
 -- its numbers have at most 64 bits
-abbrev pub HasShortNumbers : Act → Type 0
+abbrev pub HasShortNumbers : Act Op → Type 0
 HasShortNumbers (Call (Add amount)) = amount < 2 ^ 64
 HasShortNumbers (Call (Bind key number)) = number < 2 ^ 64
 HasShortNumbers (Call (Write page text)) = page < 2 ^ 64

@@ -41,7 +41,7 @@ argument_tokens _ = []
 
 -- `OBJECT OPERATION ARGUMENTS`, `swap OBJECT LAYOUT`, `destroy OBJECT`, `watch OBJECT` or
 -- `unwatch OBJECT`
-abbrev pub act_tokens : List ℕ → Act → List (List ℕ)
+abbrev pub act_tokens : List ℕ → Act Op → List (List ℕ)
 act_tokens object (Call op) = object ∷ operation_word op ∷ argument_tokens op
 act_tokens object (Swap (Layout layout)) = codes "swap" ∷ object ∷ layout_word layout ∷ []
 act_tokens object (Swap Dead) = codes "destroy" ∷ object ∷ []

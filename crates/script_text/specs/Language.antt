@@ -1,5 +1,6 @@
 -- Which texts are a script, which script it is, and which line is refused, and why.
 use Rattle.std.specs.Prelude.{◌≡◌, ℕ, ◌+◌, Bool, false, not, ◌&&◌, ◌==◌, max, if◌then◌else◌, List, [], ◌∷◌, ◌++◌, length, Option, Some, None, Result, Ok, Err}
+use Rattle.k42_kinds.specs.declared.operation.Op.{Op}
 use Rattle.k42_kinds.specs.declared.operation.Op.TheVariants as operations
 use Rattle.k42_kinds.specs.declared.entry.Act.{Act}
 use Rattle.k42_kinds.specs.declared.entry.Act.TheVariants as acts
@@ -27,7 +28,7 @@ abbrev pub byte_limit : ℕ
 byte_limit = SCRIPT_BYTES + 1
 
 -- the act that a request spells, where no part of it is missing
-abbrev pub act_of : Request → Option Act
+abbrev pub act_of : Request → Option (Act Op)
 act_of (Swap to) = Some (acts.Swap to)
 act_of (Add (Some amount)) = Some (acts.Call (operations.Add amount))
 act_of Get = Some (acts.Call operations.Get)
@@ -64,7 +65,7 @@ abbrev pub with_last_item : Script → Item → Script
 with_last_item script item = record script { workers = with_item item script.workers }
 
 -- the last worker asks the object of this place for this, on the line of this number
-abbrev pub with_call : Script → ℕ → Option ℕ → Option Act → Script
+abbrev pub with_call : Script → ℕ → Option ℕ → Option (Act Op) → Script
 with_call script number (Some object) (Some act) =
     with_last_item script (items.Line (record { line = number; object = object; act = act }))
 with_call script number _ _ = script

@@ -23,7 +23,7 @@ NamesPage (Read page) = page < PAGES
 NamesPage _ = Unit {0}
 
 -- the act may be asked of an object of this kind: an operation that it takes, or any swap
-abbrev pub IsActOn : KindName → Act → Type 0
+abbrev pub IsActOn : KindName → Act Op → Type 0
 IsActOn kind (Call op) = IsTrue ((watched_object kind).takes op) × NamesPage op
 IsActOn kind (Swap to) = Unit {0}
 
@@ -34,7 +34,7 @@ pub record IsSoundLine (script : Script) (line : CallLine) : Type 0 where
   pub asked : IsActOn kind line.act
 
 -- a call, and no swap
-abbrev pub IsCall : Act → Type 0
+abbrev pub IsCall : Act Op → Type 0
 IsCall (Call op) = Unit {0}
 IsCall (Swap to) = ⊥
 

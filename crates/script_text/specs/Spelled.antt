@@ -68,6 +68,6 @@ IsOpInRange (Read page) = page < PAGES
 IsOpInRange _ = Unit {0}
 
 -- The same of what an act asks.
-abbrev pub IsInRange : Act → Type 0
+abbrev pub IsInRange : Act Op → Type 0
 IsInRange (Call op) = IsOpInRange op
 IsInRange (Swap to) = Unit {0}

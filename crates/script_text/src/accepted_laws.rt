@@ -1,5 +1,6 @@
 //! The law that tells an accepted line by the script in front of it.
 ghost use Rattle.std.specs.Prelude.{◌<◌, ◌^◌, ℕ, List};
+ghost use Rattle.k42_kinds.specs.declared.operation.Op.{Op};
 ghost use Rattle.k42_kinds.specs.declared.entry.Act.{Act};
 ghost use Rattle.script_text.specs.Accepted.{IsAcceptedWhere, MayDeclareProcessors, MayDeclareObject, MayDeclareWorker, MayBegin, MayEnd, MayAsk, BeginsCall, HasShortNumbers};
 ghost use Rattle.script_text.specs.Acts.{act_tokens};
@@ -24,7 +25,7 @@ pub fn a_line_is_accepted_where_it_may_stand()
         IsAcceptedWhere before begin_tokens (MayBegin (script_after before)) }
     ensures end { (before : List (List ℕ)) →
         IsAcceptedWhere before end_tokens (MayEnd (script_after before)) }
-    ensures act { (before : List (List ℕ)) (name : List ℕ) (act : Act) → BeginsCall name →
+    ensures act { (before : List (List ℕ)) (name : List ℕ) (act : Act Op) → BeginsCall name →
         HasShortNumbers act →
         IsAcceptedWhere before (act_tokens name act) (MayAsk (script_after before) name act) }
 {}

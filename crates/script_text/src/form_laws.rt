@@ -1,5 +1,6 @@
 //! Laws of lines: what one written with single spaces says, and what it adds to the script.
 ghost use Rattle.std.specs.Prelude.{◌≡◌, ◌<◌, ◌≤◌, ◌∷◌, ◌++◌, ℕ, List, [], length, All, Some, codes};
+ghost use Rattle.k42_kinds.specs.declared.operation.Op.{Op};
 ghost use Rattle.k42_kinds.specs.declared.entry.Act.{Act};
 ghost use Rattle.k42_limits.specs.declared.TheConstants.{PROCESSORS, SPACE};
 ghost use Rattle.script_text.specs.Acts.{act_tokens};
@@ -65,13 +66,13 @@ pub fn an_item_is_added_to_the_last_worker()
 /// A line that asks something of a declared object adds just that to the last worker, and what it
 /// asks of which object can be told from its bytes.
 pub fn an_act_is_spelled_once()
-    ensures adds { (script : Script) (number place : ℕ) (name : List ℕ) (act : Act) →
+    ensures adds { (script : Script) (number place : ℕ) (name : List ℕ) (act : Act Op) →
         0 < length script.workers → IsFreeName name →
         place_among (object_names script) (Some name) ≡ Some place → IsInRange act →
         with_line script number (spaced (act_tokens name act))
         ≡ with_last_item script
         (items.Line (record { line = number; object = place; act = act })) }
-    ensures once { (name other : List ℕ) (act another : Act) → IsFreeName name →
+    ensures once { (name other : List ℕ) (act another : Act Op) → IsFreeName name →
         IsFreeName other → IsInRange act → IsInRange another →
         spaced (act_tokens name act) ≡ spaced (act_tokens other another) →
         (name ≡ other) × (act ≡ another) }

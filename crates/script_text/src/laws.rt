@@ -2,6 +2,8 @@
 ghost use Rattle.std.specs.Prelude.{◌≡◌, ◌+◌, ◌^◌, ◌<◌, ◌↔◌, ℕ, true, List, ◌∷◌, ◌++◌, length, Some, Err};
 ghost use Rattle.std.specs.List.{concat};
 ghost use Rattle.std.specs.Fmt.{decimal};
+ghost use Rattle.k42_kinds.specs.declared.operation.Op.{Op};
+ghost use Rattle.k42_kinds.specs.declared.operation.Reply.{Reply};
 ghost use Rattle.k42_kinds.specs.declared.entry.Entry.{Entry};
 ghost use Rattle.script_text.specs.Lawful.{call_lines, DoesItsLines, DoesInOrder};
 ghost use Rattle.script_text.specs.Lines.{lines_of, AreLines};
@@ -27,7 +29,7 @@ pub fn lines_make_the_text()
 /// A worker does what its lines ask exactly where its entries are in order for a list that has one
 /// entry for each line, with the line's object and act.
 pub fn a_worker_does_its_lines_in_order()
-    ensures { (history : List Entry) (number : ℕ) (worker : WorkerLines) →
+    ensures { (history : List (Entry Op Reply)) (number : ℕ) (worker : WorkerLines) →
         DoesItsLines history number worker
         ↔ DoesInOrder history number (call_lines worker.items) }
 {}

@@ -96,7 +96,7 @@ pub fn has_bad_name(form: &Form) -> bool
 }
 
 /// The act that a request spells, where no part of it is missing.
-pub fn act_of(request: &Request) -> Option<Act>
+pub fn act_of(request: &Request) -> Option<Act<Op>>
     ensures { result ≡ act_of request.now }
 {
     match request {

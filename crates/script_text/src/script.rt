@@ -1,6 +1,6 @@
 //! A script as a value: processors, objects, and the lines of each worker.
 use k42_items::Items;
-use k42_kinds::{Act, KindName, LayoutName, Name};
+use k42_kinds::{Act, KindName, LayoutName, Name, Op};
 
 /// A line that asks something of an object.
 #[derive(Clone, Copy, Debug, PartialEq, Eq)]
@@ -9,7 +9,7 @@ pub struct CallLine {
     pub line: u32,
     /// The object, by its place among the script's objects, from 0.
     pub object: u32,
-    pub act: Act,
+    pub act: Act<Op>,
 }
 
 /// A line of a worker. The calls between `Begin` and `End` are one activity.

@@ -87,7 +87,7 @@ fn are_done_to_the_last<R: Wait>(
 
 /// There is nothing to tell where a swap has another number than the one after those before it, or is done after one that
 /// was refused.
-fn told_by(entries: &[Entry], value: u64) -> Option<Told> {
+fn told_by(entries: &[Entry<Op, Reply>], value: u64) -> Option<Told> {
     let mut told = Told {
         done: 0,
         spent: 0,

@@ -4,6 +4,8 @@ use Rattle.std.specs.Prelude.{slice_get}
 use Rattle.std.proofs.lemmas.List.{append-nil, append_assoc, length-replicate}
 use Rattle.std.proofs.lemmas.Option.{slice_get_within}
 use Rattle.k42_board.specs.declared.view.PassView.{PassView}
+use Rattle.k42_kinds.specs.declared.operation.Op.{Op}
+use Rattle.k42_kinds.specs.declared.operation.Reply.{Reply}
 use Rattle.k42_kinds.specs.declared.entry.Entry.{Entry}
 use Rattle.k42_places.specs.Places.{EachPair}
 use Rattle.k42_places.proofs.EachPlaces.{EachPlace-replicate}
@@ -29,7 +31,7 @@ module _ (system : SystemSeen) (plan : List (ℕ × To)) (answers : List (Result
   -- one item's entry, and those of the others
   one_more : (asked : ℕ × To) (items : List ℕ) (answer : Result Swapped NoSwap) (old mid new : SystemPass) → Ends system (new_swap asked.0 asked.1) old answer mid
       → HasDrawnFor plan answers items mid new
-      → (entries : List Entry) × (new.view.taker.mine ≡ old.view.taker.mine ++ entries) × BeginWith asked answer (AreEntriesOf plan answers items) entries
+      → (entries : List (Entry Op Reply)) × (new.view.taker.mine ≡ old.view.taker.mine ++ entries) × BeginWith asked answer (AreEntriesOf plan answers items) entries
   one_more asked items (Ok end) old mid new ends rest = (
     ends.ended.entry ∷ rest.0,
     rest.1 ∙ ap (λ mine. mine ++ rest.0) ends.ended.drawn ∙ append_assoc old.view.taker.mine (ends.ended.entry ∷ []) rest.0,
@@ -38,9 +40,9 @@ module _ (system : SystemSeen) (plan : List (ℕ × To)) (answers : List (Result
       rest.0,
       refl,
       record {
-        object = ap (λ (e : Entry). e.object) ends.ended.next.whole;
-        act = ap (λ (e : Entry). e.act) ends.ended.next.whole;
-        answer_is = ap (λ (e : Entry). e.answer) ends.ended.next.whole;
+        object = ap (λ (e : Entry Op Reply). e.object) ends.ended.next.whole;
+        act = ap (λ (e : Entry Op Reply). e.act) ends.ended.next.whole;
+        answer_is = ap (λ (e : Entry Op Reply). e.answer) ends.ended.next.whole;
       },
       rest.2,
     ),
@@ -50,7 +52,7 @@ module _ (system : SystemSeen) (plan : List (ℕ × To)) (answers : List (Result
   one_more asked items (Err Memory) old mid new ends rest =
       ⊎_elim
       (λ (u : (New ≡ New) × (mid.view ≡ old.view)).
-      (rest.0, rest.1 ∙ ap (λ (v : PassView SystemPart). v.taker.mine ++ rest.0) u.1, inl rest.2))
+      (rest.0, rest.1 ∙ ap (λ (v : PassView SystemPart Op Reply). v.taker.mine ++ rest.0) u.1, inl rest.2))
       (λ (u : HasAbandoned asked.0 asked.1 old.view mid.view). (
         u.entry ∷ rest.0,
         rest.1 ∙ ap (λ mine. mine ++ rest.0) u.drawn ∙ append_assoc old.view.taker.mine (u.entry ∷ []) rest.0,
@@ -61,9 +63,9 @@ module _ (system : SystemSeen) (plan : List (ℕ × To)) (answers : List (Result
           (
             _,
             record {
-              object = ap (λ (e : Entry). e.object) u.next.whole;
-              act = ap (λ (e : Entry). e.act) u.next.whole;
-              answer_is = ap (λ (e : Entry). e.answer) u.next.whole;
+              object = ap (λ (e : Entry Op Reply). e.object) u.next.whole;
+              act = ap (λ (e : Entry Op Reply). e.act) u.next.whole;
+              answer_is = ap (λ (e : Entry Op Reply). e.answer) u.next.whole;
             },
           ),
           rest.2,

@@ -7,10 +7,12 @@ use Rattle.k42_runtime.specs.declared.swaps.NoSwap.{NoSwap}
 use Rattle.k42_runtime.specs.declared.swaps.Stage.TheVariants.{New}
 use Rattle.k42_runtime.specs.declared.swaps.NoSwap.TheVariants.{Worn}
 use Rattle.k42_runtime.specs.declared.swaps.Swapped.{Swapped}
+use Rattle.k42_kinds.specs.declared.operation.Op.{Op}
+use Rattle.k42_kinds.specs.declared.operation.Reply.{Reply}
 use Rattle.k42_kinds.specs.declared.entry.To.{To}
 use Rattle.swap_future.specs.Polling.{Ends, new_swap}
 
-unchanged : (old new : PassView SystemPart) → new ≡ old → new ≡ record old { rows = new.rows; granted = new.granted }
+unchanged : (old new : PassView SystemPart Op Reply) → new ≡ old → new ≡ record old { rows = new.rows; granted = new.granted }
 unchanged old new same = same ∙ (λ j. record old { rows = (sym same j).rows; granted = (sym same j).granted })
 
 module _ (system : SystemSeen) (object : ℕ) (to : To) (old new : SystemPass) where

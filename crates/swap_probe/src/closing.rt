@@ -4,7 +4,7 @@ ghost use Rattle.k42_board.specs.declared.keep.Keep.TheVariants.{All};
 ghost use Rattle.k42_crews.specs.Ready.{IsFree};
 
 use crate::steps::Fault;
-use k42_kinds::{Answer, Entry};
+use k42_kinds::{Answer, Entry, Op, Reply};
 use k42_memory::Memory;
 use k42_runtime::{History, Pass, System};
 use std::alloc::Global;
@@ -47,7 +47,11 @@ pub(crate) fn closed(
 
 /// Whether the entries have just these answers, in this order. Entries of swaps that were given up are passed over, of which
 /// there are to be so many.
-pub(crate) fn are_answered(entries: &[Entry], due: &[Answer], given_up: usize) -> bool {
+pub(crate) fn are_answered(
+    entries: &[Entry<Op, Reply>],
+    due: &[Answer<Reply>],
+    given_up: usize,
+) -> bool {
     let mut place: usize = 0;
     for entry in entries {
         if matches!(entry.answer, Answer::Abandoned(_)) {

@@ -14,7 +14,7 @@ use std::alloc::Global;
 use std::sync::Wait;
 
 /// What the entries answer but for those of swaps that were given up.
-const DONE_AT_ONCE: [Answer; 5] = [
+const DONE_AT_ONCE: [Answer<Reply>; 5] = [
     Answer::Replied(Reply::Done),
     Answer::Busy(1),
     Answer::Replied(Reply::Number(5)),
@@ -23,7 +23,7 @@ const DONE_AT_ONCE: [Answer; 5] = [
 ];
 
 /// The same where one was given up, after which the counter was found open once more.
-const DONE_AT_LAST: [Answer; 6] = [
+const DONE_AT_LAST: [Answer<Reply>; 6] = [
     Answer::Replied(Reply::Done),
     Answer::Busy(1),
     Answer::Replied(Reply::Number(5)),
@@ -197,7 +197,7 @@ fn swap_beside<R: Wait>(
 }
 
 /// Whether the history tells what was answered, where so many swaps were given up.
-fn is_told(entries: &[Entry], given_up: usize) -> bool {
+fn is_told(entries: &[Entry<Op, Reply>], given_up: usize) -> bool {
     let last_at = entries.last().map_or(0, |entry| entry.incarnation);
     if given_up == 0 {
         last_at == 1 && are_answered(entries, &DONE_AT_ONCE, 0)

@@ -13,7 +13,7 @@ mod phases;
 mod rows;
 
 /// The entry of a call of the first object by the first caller.
-fn called(stamp: u64, index: u64, incarnation: u32, op: Op, reply: Reply) -> Entry
+fn called(stamp: u64, index: u64, incarnation: u32, op: Op, reply: Reply) -> Entry<Op, Reply>
     requires { incarnation < 1_048_575 }
 {
     Entry {
@@ -31,7 +31,13 @@ fn called(stamp: u64, index: u64, incarnation: u32, op: Op, reply: Reply) -> Ent
 }
 
 /// The entry of a swap of the first object, where the caller drew it in so many before.
-fn swapped(caller: u32, stamp: u64, index: u64, incarnation: u32, to: LayoutName) -> Entry
+fn swapped(
+    caller: u32,
+    stamp: u64,
+    index: u64,
+    incarnation: u32,
+    to: LayoutName,
+) -> Entry<Op, Reply>
     requires { incarnation < 1_048_575 }
 {
     Entry {
@@ -49,7 +55,7 @@ fn swapped(caller: u32, stamp: u64, index: u64, incarnation: u32, to: LayoutName
 }
 
 /// Whether the caller has drawn just these entries.
-fn has_drawn(lists: &[Vec<Entry>], caller: usize, due: &[Entry]) -> bool {
+fn has_drawn(lists: &[Vec<Entry<Op, Reply>>], caller: usize, due: &[Entry<Op, Reply>]) -> bool {
     match lists.get(caller) {
         Some(list) => list.as_slice() == due,
         None => false,
@@ -57,7 +63,7 @@ fn has_drawn(lists: &[Vec<Entry>], caller: usize, due: &[Entry]) -> bool {
 }
 
 /// Whether the caller has drawn no entry.
-fn has_drawn_nothing(lists: &[Vec<Entry>], caller: usize) -> bool {
+fn has_drawn_nothing(lists: &[Vec<Entry<Op, Reply>>], caller: usize) -> bool {
     match lists.get(caller) {
         Some(list) => list.is_empty(),
         None => false,

@@ -5,7 +5,7 @@ use Rattle.k42_board.specs.declared.view.PassView.{PassView}
 use Rattle.table_crews.specs.Ready.{HoldsNoCell}
 
 -- what is the same of two views of a pass that holds no cell
-pub record IsAlike {P : Type 0} (v w : PassView P) : Type 0 where
+pub record IsAlike {P O R : Type 0} (v w : PassView P O R) : Type 0 where
   pub proc : w.turn.proc ≡ v.turn.proc
   pub waits : length w.turn.waits ≡ length v.turn.waits
   pub noted : length w.visitor.noted ≡ length v.visitor.noted
@@ -13,7 +13,7 @@ pub record IsAlike {P : Type 0} (v w : PassView P) : Type 0 where
   pub held : w.taker.held ≡ v.taker.held
   pub notes : w.notes ≡ v.notes
 
-pub free_alike : {L P : Type 0} (sys : SysSeen L) (old new : PassSeen P) → HoldsNoCell sys old → new.table ≡ old.table → new.queue ≡ old.queue → new.keep ≡ old.keep → IsAlike old.view new.view
+pub free_alike : {L P O R : Type 0} (sys : SysSeen L) (old new : PassSeen P O R) → HoldsNoCell sys old → new.table ≡ old.table → new.queue ≡ old.queue → new.keep ≡ old.keep → IsAlike old.view new.view
     → HoldsNoCell sys new
 free_alike sys old new is table queue keep alike = record {
   ours = record {

@@ -14,11 +14,11 @@ pub unhanded : (swap : SwapAt) (turned : Bool) (handed : Option ℕ) (last : Opt
 unhanded swap turned None last fits e = refl
 unhanded swap turned (Some tag) last fits e = let moved = fits.moved refl in absurd (cc (moved, e))
 
-either : {P : Type 0} (b : Bool) (v w : PassView P) (handed : Option ℕ) → v.handed ≡ handed → w.handed ≡ handed → (if b then v else w).handed ≡ handed
+either : {P O R : Type 0} (b : Bool) (v w : PassView P O R) (handed : Option ℕ) → v.handed ≡ handed → w.handed ≡ handed → (if b then v else w).handed ≡ handed
 either true v w handed first second = first
 either false v w handed first second = second
 
 -- a try to move hands nothing on
-pub still_unhanded : {P : Type 0} (step : StepName) (word found : ℕ) (v w : PassView P) → w ≡ took step word found (moved_view found v) → v.handed ≡ None → w.handed ≡ None
-still_unhanded {P} step word found v w is none =
-    ap (λ (x : PassView P). x.handed) is ∙ either (found == blocked_word v) (at_swap v (Moved (object_swapped v))) v None none none
+pub still_unhanded : {P O R : Type 0} (step : StepName) (word found : ℕ) (v w : PassView P O R) → w ≡ took step word found (moved_view found v) → v.handed ≡ None → w.handed ≡ None
+still_unhanded {P} {O} {R} step word found v w is none =
+    ap (λ (x : PassView P O R). x.handed) is ∙ either (found == blocked_word v) (at_swap v (Moved (object_swapped v))) v None none none

@@ -4,11 +4,11 @@ use Rattle.k42_kinds.specs.declared.entry.Entry.{Entry}
 use Rattle.k42_board.specs.declared.view.PassView.{PassView}
 
 -- no entry
-abbrev pub HasDrawnNone : {P : Type 0} → PassView P → PassView P → Type 0
+abbrev pub HasDrawnNone : {P O R : Type 0} → PassView P O R → PassView P O R → Type 0
 HasDrawnNone old new = new.taker.mine ≡ old.taker.mine
 
 -- one entry, with this stamp
-pub record HasDrawn {P : Type 0} (stamp : ℕ) (old new : PassView P) : Type 0 where
-  pub entry : Entry
+pub record HasDrawn {P O R : Type 0} (stamp : ℕ) (old new : PassView P O R) : Type 0 where
+  pub entry : Entry O R
   pub stamped : entry.stamp ≡ stamp
   pub mine : new.taker.mine ≡ old.taker.mine ++ entry ∷ []

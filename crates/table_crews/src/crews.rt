@@ -11,7 +11,7 @@ ghost use Rattle.k42_rule.specs.Tags.{HaveTags};
 ghost use Rattle.table_crews.specs.Ready.{HoldsNoCell, HoldNoCells, rests_at, rest_from};
 
 use co_any::AnyLayout;
-use k42_kinds::{Entry, KindName, Layout, LayoutName};
+use k42_kinds::{Entry, KindName, Layout, LayoutName, Packed, PackedReply};
 use k42_log::Log;
 use k42_memory::Memory;
 use k42_rule::{Keep, Pass, Sys, give_logs};
@@ -87,7 +87,11 @@ fn rest<L: Layout>(passes: &[Pass<L>], first: usize) -> bool
 }
 
 /// What the logs say, as lists.
-fn read_all(alloc: Global, logs: &[Log], lists: &mut Vec<Vec<Entry>>) -> Result<(), Memory>
+fn read_all<O: Packed, R: PackedReply>(
+    alloc: Global,
+    logs: &[Log<O, R>],
+    lists: &mut Vec<Vec<Entry<O, R>>>,
+) -> Result<(), Memory>
     requires room { vec_len lists.old + length logs.now ≤ vec_capacity lists.old }
     ensures { OnOk result (map vec_items lists.new.items ≡ map vec_items lists.old.items ++ logged_in logs.now) }
 {
@@ -103,7 +107,7 @@ pub fn finish<L: Layout>(
     alloc: Global,
     sys: Sys<L>,
     mut passes: Vec<Pass<L>>,
-) -> Result<Option<Vec<Vec<Entry>>>, Memory>
+) -> Result<Option<Vec<Vec<Entry<L::Op, L::Reply>>>>, Memory>
     requires many { length passes.items ≡ length sys.callers }
     requires free { HoldNoCells sys passes.items }
     ensures rest { IfOk result (λ lists. IsSome lists ↔ (rest_from 0 passes.items ≡ true)) }

@@ -8,7 +8,7 @@ ghost use Rattle.table_crews.specs.Ready.{HoldsNoCell, IsServing, IsLayoutOf};
 
 use crate::crews::Walk;
 use co_any::AnyLayout;
-use k42_kinds::{Layout, Op, Reach, Reply, kind_of};
+use k42_kinds::{Layout, Op, Reach, kind_of};
 use k42_limits::PASS_ENTRIES;
 use k42_memory::Memory;
 use k42_rule::{
@@ -20,11 +20,11 @@ use std::alloc::Global;
 fn step_part<L: Layout>(
     alloc: Global,
     layout: &L,
-    cell: &mut Content<L::Part>,
+    cell: &mut Content<L::Part, L::Op, L::Reply>,
     place: u32,
     procs: u32,
-    op: &Op,
-) -> Result<Reply, Memory>
+    op: &L::Op,
+) -> Result<L::Reply, Memory>
     requires known { (L.tag_of layout.now ≤ 2) × (place < procs) × (procs ≤ PROCESSORS) }
     requires takes { IsTrue ((L.object layout.now).takes op.now) }
     requires reached { IsReached (L.ways layout.now) (L.whole layout.now)
@@ -52,7 +52,7 @@ pub fn step_at<L: Layout>(
     pass: &mut Pass<L>,
     layout: &L,
     inside: &Inside,
-    op: &Op,
+    op: &L::Op,
 ) -> Result<Option<u64>, Memory>
     requires free { HoldsNoCell sys.now pass.old }
     requires serving { IsServing pass.old.view }

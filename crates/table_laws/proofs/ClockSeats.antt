@@ -13,7 +13,7 @@ use Rattle.table_laws.specs.Seating.{JoinIs, SplitStays}
 use Rattle.table_laws.proofs.Views.{each_after_split}
 use Rattle.table_laws.proofs.Seated.{still}
 
-module _ {S L P : Type 0} (F : Layouts S L P) (declared : List L) (id : ℕ) (v : PassView P) where
+module _ {S L P O R : Type 0} (F : Layouts S L P O R) (declared : List L) (id : ℕ) (v : PassView P O R) where
   pub clock_told_off : SplitStays F declared id (Crew (v ∷ [])) (Crew (v ∷ [])) (Drew v.taker.clock)
   clock_told_off table r at =
       still F declared table r r.beside.seat r.beside.row_seat (set table.views id (Crew (v ∷ [])) ++ Drew v.taker.clock ∷ [])

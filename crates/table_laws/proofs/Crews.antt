@@ -18,9 +18,9 @@ use Rattle.table_laws.specs.Seating.{SplitStays, JoinStays}
 use Rattle.table_laws.proofs.Views.{each_after_split, each_after_join}
 use Rattle.table_laws.proofs.Seated.{beside_seated, still}
 
-module _ {S L P : Type 0} (F : Layouts S L P) (declared : List L) (id : ℕ) (v : PassView P) where
+module _ {S L P O R : Type 0} (F : Layouts S L P O R) (declared : List L) (id : ℕ) (v : PassView P O R) where
   -- the first pass of a seat, which holds no row, gets a seat of its own
-  pub dealt_off : (rest : List (PassView P)) → v.rows ≡ [] → SplitStays F declared id (Crew (v ∷ rest)) (Crew rest) (Crew (v ∷ []))
+  pub dealt_off : (rest : List (PassView P O R)) → v.rows ≡ [] → SplitStays F declared id (Crew (v ∷ rest)) (Crew rest) (Crew (v ∷ []))
   dealt_off rest none table r at =
       still F declared table r (put r.beside.seat v.number (length table.views)) r.beside.row_seat (set table.views id (Crew rest) ++ Crew (v ∷ []) ∷ [])
       (each_after_split (Knows F.tag_of r.state beside') table.views id (Crew rest) (Crew (v ∷ [])) left (apart_alone v, own)
@@ -34,7 +34,7 @@ module _ {S L P : Type 0} (F : Layouts S L P) (declared : List L) (id : ℕ) (v 
         mine : KnowsPass F.tag_of r.state r.beside id v
         mine = knows.1 0 v refl
 
-        own : (place : ℕ) (x : PassView P) → slice_get (v ∷ []) place ≡ Some x → KnowsPass F.tag_of r.state beside' (length table.views) x
+        own : (place : ℕ) (x : PassView P O R) → slice_get (v ∷ []) place ≡ Some x → KnowsPass F.tag_of r.state beside' (length table.views) x
         own zero x e =
             subst (KnowsPass F.tag_of r.state beside' (length table.views)) (same_Some v x e)
             (seated_at F.tag_of r.state r.beside (put r.beside.seat v.number (length table.views)) id (length table.views) v
@@ -50,7 +50,7 @@ module _ {S L P : Type 0} (F : Layouts S L P) (declared : List L) (id : ℕ) (v 
               (put_else r.beside.seat v.number (length table.views) x.number (λ same. let one = knows.0 (suc place) 0 x v e refl same in absurd (omega (arith, one))) ∙ k.seat) k.names k,
         )
 
-        other : (j : ℕ) (view : View P) → j ≢ id → Knows F.tag_of r.state r.beside j view → Knows F.tag_of r.state beside' j view
+        other : (j : ℕ) (view : View P O R) → j ≢ id → Knows F.tag_of r.state r.beside j view → Knows F.tag_of r.state beside' j view
         other j (Crew passes) not theirs = (
           theirs.0,
           λ place x e.
@@ -69,14 +69,14 @@ module _ {S L P : Type 0} (F : Layouts S L P) (declared : List L) (id : ℕ) (v 
       still F declared table r r.beside.seat r.beside.row_seat (set table.views id (Crew (w ∷ [])) ++ first_told v.notes v.untold ∷ [])
       (each_after_split (Knows F.tag_of r.state r.beside) table.views id (Crew (w ∷ [])) (first_told v.notes v.untold) (apart_alone w, own)
       (told (length table.views) v.untold) (λ j view not e. r.seats j view e)) where
-        w : PassView P
+        w : PassView P O R
         w = untold_view (after_first v.untold) v
 
         told : (j : ℕ) (cells : List ℕ) → Knows F.tag_of r.state r.beside j (first_told v.notes cells)
         told j [] = tt
         told j (n ∷ cells) = tt
 
-        own : (place : ℕ) (x : PassView P) → slice_get (w ∷ []) place ≡ Some x → KnowsPass F.tag_of r.state r.beside id x
+        own : (place : ℕ) (x : PassView P O R) → slice_get (w ∷ []) place ≡ Some x → KnowsPass F.tag_of r.state r.beside id x
         own zero x e =
             subst (KnowsPass F.tag_of r.state r.beside id) (same_Some w x e)
             (untold_known F.tag_of r.state r.beside id v (known F declared table r id v at) (after_first v.untold))
@@ -99,8 +99,8 @@ moved from onto = put (λ n. n) from onto
 abbrev beside_joined : {P : Type 0} → (id other : ℕ) → Beside P → Beside P
 beside_joined id other beside = beside_seated beside (λ c. moved other id (beside.seat c)) (λ row. moved other id (beside.row_seat row))
 
-module _ {L P : Type 0} (tag_of : L → ℕ) (s : Joined L) (beside : Beside P) (id other : ℕ) (apart : other ≢ id) where
-  moved_pass : (j k : ℕ) (x : PassView P) → moved other id j ≡ k → KnowsPass tag_of s beside j x
+module _ {L P O R : Type 0} (tag_of : L → ℕ) (s : Joined L O R) (beside : Beside P) (id other : ℕ) (apart : other ≢ id) where
+  moved_pass : (j k : ℕ) (x : PassView P O R) → moved other id j ≡ k → KnowsPass tag_of s beside j x
       → KnowsPass tag_of s (beside_joined id other beside) k x
   moved_pass j k x is knows = record {
     there = knows.there;
@@ -115,14 +115,14 @@ module _ {L P : Type 0} (tag_of : L → ℕ) (s : Joined L) (beside : Beside P) 
     trace = knows.trace;
   }
 
-  moved_others : (j : ℕ) (view : View P) → j ≢ other → Knows tag_of s beside j view → Knows tag_of s (beside_joined id other beside) j view
+  moved_others : (j : ℕ) (view : View P O R) → j ≢ other → Knows tag_of s beside j view → Knows tag_of s (beside_joined id other beside) j view
   moved_others j (Crew passes) not knows = (knows.0, λ place x e. moved_pass j j x (put_else (λ n. n) other id j not) (knows.1 place x e))
   moved_others j (Kept told) not knows = tt
   moved_others j (Drew stamp) not knows = knows
   moved_others j (Named row) not knows = (knows.0, ap (moved other id) knows.1 ∙ put_else (λ n. n) other id j not)
   moved_others j Spent not knows = tt
 
-  module _ (ours theirs : List (PassView P)) (mine : Knows tag_of s beside id (Crew ours)) (them : Knows tag_of s beside other (Crew theirs)) where
+  module _ (ours theirs : List (PassView P O R)) (mine : Knows tag_of s beside id (Crew ours)) (them : Knows tag_of s beside other (Crew theirs)) where
     apart_both : AreApart (ours ++ theirs)
     apart_both i j v w e f same =
         ⊎_elim
@@ -149,7 +149,7 @@ module _ {L P : Type 0} (tag_of : L → ℕ) (s : Joined L) (beside : Beside P) 
     )
 
 -- the passes of two seats go to the one
-pub gathered : {S L P : Type 0} (F : Layouts S L P) (declared : List L) (id other : ℕ) (ours theirs : List (PassView P))
+pub gathered : {S L P O R : Type 0} (F : Layouts S L P O R) (declared : List L) (id other : ℕ) (ours theirs : List (PassView P O R))
     → JoinStays F declared id (Crew ours) other (Crew theirs) (Crew (ours ++ theirs))
 gathered {S} {L} {P} F declared id other ours theirs table r at apart at_other =
     still F declared table r (λ c. moved other id (r.beside.seat c)) (λ row. moved other id (r.beside.row_seat row)) (set (set table.views id (Crew (ours ++ theirs))) other Spent)

@@ -27,14 +27,14 @@ use Rattle.k42_board.proofs.Begun.{few_begun}
 use Rattle.k42_board.proofs.Fields.{object_fits, entry_known}
 use Rattle.table_laws.specs.Numbers.{ProcessorFits, LocalFits, ObjectFits, EntryFits, HolderFits, AllFit, NumbersFit}
 
-module _ {S L P : Type 0} (F : Layouts S L P) (declared : List L) (table : State (Slot P) (View P)) (r : Rule F declared table) where
+module _ {S L P O R : Type 0} (F : Layouts S L P O R) (declared : List L) (table : State (Slot P O R) (View P O R)) (r : Rule F declared table) where
   abbrev s : Phases
   s = r.state.phases
 
   abbrev g : Generations
   g = r.state.phases.turns
 
-  abbrev t : Turns
+  abbrev t : Turns O R
   t = r.state.turns
 
   few_callers : length g.callers ≤ 16
@@ -84,17 +84,17 @@ module _ {S L P : Type 0} (F : Layouts S L P) (declared : List L) (table : State
 
   few_entries : entries_drawn t.callers ≤ 2 ^ 62
   few_entries =
-      let most = sum_by-le (λ (x : Caller). length x.mine) (2 ^ 58) t.callers (λ i d lt. r.shows.few_entries i (get_or t.callers i d) (slice_get-get_or t.callers i d lt)) in
+      let most = sum_by-le (λ (x : Caller O R). length x.mine) (2 ^ 58) t.callers (λ i d lt. r.shows.few_entries i (get_or t.callers i d) (slice_get-get_or t.callers i d lt)) in
       let few = few_drawers in omega (arith, most, few)
 
-  answered : (c : ℕ) (x : Caller) → slice_get t.callers c ≡ Some x → (place : ℕ) (entry : Entry) → slice_get x.mine place ≡ Some entry → IsAnswer r.state c entry
+  answered : (c : ℕ) (x : Caller O R) → slice_get t.callers c ≡ Some x → (place : ℕ) (entry : Entry O R) → slice_get x.mine place ≡ Some entry → IsAnswer r.state c entry
   answered c x at place entry e =
       let within = slice_get_within t.callers c x at in let many = r.sound.cells.locks.many.callers in
       let same : get_or t.callers c fresh_caller ≡ x = same_Some (get_or t.callers c fresh_caller) x (sym (slice_get-get_or t.callers c fresh_caller within) ∙ at) in
       (r.sound.answers c (omega (arith, within, many))).each entry
-      (place_in entry (drawn_by t.callers c) place (subst (λ (z : Caller). slice_get z.mine place ≡ Some entry) (sym same) e))
+      (place_in entry (drawn_by t.callers c) place (subst (λ (z : Caller O R). slice_get z.mine place ≡ Some entry) (sym same) e))
 
-  list_fits : (c : ℕ) (x : Caller) → slice_get t.callers c ≡ Some x → AllFit x.mine
+  list_fits : (c : ℕ) (x : Caller O R) → slice_get t.callers c ≡ Some x → AllFit x.mine
   list_fits c x at place entry e =
       let known = r.sound.cells.turns.callers c x at in
       let small = known.bounded place entry e in let most = few_entries in
@@ -109,17 +109,17 @@ module _ {S L P : Type 0} (F : Layouts S L P) (declared : List L) (table : State
         incarnation = let known = told.known in let last = (object_fits s r.sound.phases entry.object told.there).incarnation in omega (arith, known, last);
       }
 
-  none_there : (i : ℕ) (entry : Entry) → slice_get [] i ≡ Some entry → EntryFits entry
+  none_there : (i : ℕ) (entry : Entry O R) → slice_get [] i ≡ Some entry → EntryFits entry
   none_there i entry e = absurd (cc)
 
   -- an entry of a history stands in a caller's list
-  standing_fits : (entry : Entry) → StandsIn t.callers entry → EntryFits entry
+  standing_fits : (entry : Entry O R) → StandsIn t.callers entry → EntryFits entry
   standing_fits entry stands = by_caller (cases_lt entry.caller (length t.callers)) where
     by_caller : (entry.caller < length t.callers) ⊎ (length t.callers ≤ entry.caller) → EntryFits entry
     by_caller (inl there) =
         list_fits entry.caller (get_or t.callers entry.caller fresh_caller) (slice_get-get_or t.callers entry.caller fresh_caller there) entry.index entry stands
     by_caller (inr past) =
-        none_there entry.index entry (subst (λ (x : Caller). slice_get x.mine entry.index ≡ Some entry) (get_or_past t.callers entry.caller fresh_caller past) stands)
+        none_there entry.index entry (subst (λ (x : Caller O R). slice_get x.mine entry.index ≡ Some entry) (get_or_past t.callers entry.caller fresh_caller past) stands)
 
   pub numbers_are : NumbersFit r.state
   numbers_are = record {

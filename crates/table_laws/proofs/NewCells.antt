@@ -68,7 +68,7 @@ first_life (suc objects) n lt =
           subst (λ m. get_or (first_lives (suc objects)) m 0 ≡ n / 8 % 2) (omega (arith, past))
           (next_life objects (n - 16) ∙ is ∙ omega (arith, past))
 
-no_history : (life : ℕ) → get_or {A = List Entry} ([] ∷ []) life [] ≡ []
+no_history : {O R : Type 0} (life : ℕ) → get_or {A = List (Entry O R)} ([] ∷ []) life [] ≡ []
 no_history zero = refl
 no_history (suc life) = refl
 
@@ -76,7 +76,7 @@ none_of : {A : Type 0} (xs : List A) → length xs ≡ 0 → xs ≡ []
 none_of [] e = refl
 none_of (x ∷ xs) e = absurd (omega (arith, e))
 
-cell_is : (x : Cell) (life : ℕ) → IsUnused x → x.closed ≡ false → x.life ≡ life → length x.past ≡ 0 → x ≡ fresh_cell life
+cell_is : {O R : Type 0} (x : Cell O R) (life : ℕ) → IsUnused x → x.closed ≡ false → x.life ≡ life → length x.past ≡ 0 → x ≡ fresh_cell life
 cell_is x life unused closed life_is past =
     let none : x.past ≡ [] = none_of x.past past in
     λ i. record { lock = unused.lock i; home = unused.home i; closed = closed i; life = life_is i; history = unused.history i; past = none i }
@@ -88,22 +88,22 @@ one_alone (x ∷ xs) a b e = by_rest xs e where
   by_rest [] same = absurd (cc)
   by_rest (y ∷ ys) same = absurd (cc)
 
-module _ {S L P : Type 0} (F : Layouts S L P) (declared : List L) (callers : List ℕ) (table : State (Slot P) (View P))
+module _ {S L P O R : Type 0} (F : Layouts S L P O R) (declared : List L) (callers : List ℕ) (table : State (Slot P O R) (View P O R))
     (r : Ruled F declared (length callers) table) (new : AreNewPasses F.procs (length declared) callers table.views) where
-  abbrev s : Joined L
+  abbrev s : Joined L O R
   s = r.rule.state
 
   drawn_none : (c : ℕ) → drawn_by s.turns.callers c ≡ []
-  drawn_none c = ap (λ (x : Caller). x.mine) (drawer_is F declared callers table r new c)
+  drawn_none c = ap (λ (x : Caller O R). x.mine) (drawer_is F declared callers table r new c)
 
   held_none : (c : ℕ) → held_by s.turns.callers c ≡ []
-  held_none c = ap (λ (x : Caller). x.held) (drawer_is F declared callers table r new c)
+  held_none c = ap (λ (x : Caller O R). x.held) (drawer_is F declared callers table r new c)
 
-  undrawn : (h : List Entry) → IsHistory s.turns.callers h → h ≡ []
+  undrawn : (h : List (Entry O R)) → IsHistory s.turns.callers h → h ≡ []
   undrawn [] is = refl
   undrawn (e ∷ es) is =
       let stands : slice_get (drawn_by s.turns.callers e.caller) e.index ≡ Some e = is.drawn 0 e refl in
-      let none : slice_get [] e.index ≡ Some e = subst (λ (xs : List Entry). slice_get xs e.index ≡ Some e) (drawn_none e.caller) stands in
+      let none : slice_get [] e.index ≡ Some e = subst (λ (xs : List (Entry O R)). slice_get xs e.index ≡ Some e) (drawn_none e.caller) stands in
       absurd (cc)
 
   cell_known : (n : ℕ) → n < length s.turns.cells → IsCell s.turns.callers n (cell s n)
@@ -112,7 +112,7 @@ module _ {S L P : Type 0} (F : Layouts S L P) (declared : List L) (callers : Lis
   histories_none : (n life : ℕ) → get_or (histories_of (cell s n)) life [] ≡ []
   histories_none n life = ⊎_elim here past (cases_lt n (length s.turns.cells)) where
     past : length s.turns.cells ≤ n → get_or (histories_of (cell s n)) life [] ≡ []
-    past far = ap (λ (x : Cell). get_or (histories_of x) life []) (get_or_past s.turns.cells n (fresh_cell 0) far) ∙ no_history life
+    past far = ap (λ (x : Cell O R). get_or (histories_of x) life []) (get_or_past s.turns.cells n (fresh_cell 0) far) ∙ no_history life
 
     here : n < length s.turns.cells → get_or (histories_of (cell s n)) life [] ≡ []
     here there = ⊎_elim
@@ -141,7 +141,7 @@ module _ {S L P : Type 0} (F : Layouts S L P) (declared : List L) (callers : Lis
         let gone : false ≡ true = ap (λ (lock : Option ℕ). is_some lock) (sym lock_is) ∙ (cell_known n there).away e in
         absurd (cc)
 
-  pub all_unused : (n : ℕ) (x : Cell) → slice_get s.turns.cells n ≡ Some x → IsUnused x
+  pub all_unused : (n : ℕ) (x : Cell O R) → slice_get s.turns.cells n ≡ Some x → IsUnused x
   all_unused n x at =
       let there = slice_get_within s.turns.cells n x at in
       subst IsUnused (same_Some (cell s n) x (sym (slice_get-get_or s.turns.cells n (fresh_cell 0) there) ∙ at)) (unused n there)
@@ -154,15 +154,15 @@ module _ {S L P : Type 0} (F : Layouts S L P) (declared : List L) (callers : Lis
       omega (arith, told, some, many)
 
   -- an entry with which a row begins would stand in a history
-  none_past : (o : ℕ) (declaration : L) (chain : Chain L P) → Fits F declaration o (history_in s o) chain → chain.past ≡ []
+  none_past : (o : ℕ) (declaration : L) (chain : Chain L P O R) → Fits F declaration o (history_in s o) chain → chain.past ≡ []
   none_past o declaration chain fits = by_past chain.past refl where
-    by_past : (past : List (Turn L P)) → chain.past ≡ past → chain.past ≡ []
+    by_past : (past : List (Turn L P O R)) → chain.past ≡ past → chain.past ≡ []
     by_past [] e = e
     by_past (turn ∷ past) e =
         let left : [] ≡ first_of chain.past ++ those_at F chain.row.layout 0 chain.row.entries =
         sym (histories_none (cell_of o (length chain.past) 0) (length chain.past / 2)) ∙ fits.left 0 some_procs in
         let some : [] ≡ turn.done ∷ those_at F chain.row.layout 0 chain.row.entries =
-        subst (λ (xs : List (Turn L P)). [] ≡ first_of xs ++ those_at F chain.row.layout 0 chain.row.entries) e left in
+        subst (λ (xs : List (Turn L P O R)). [] ≡ first_of xs ++ those_at F chain.row.layout 0 chain.row.entries) e left in
         absurd (cc)
 
   -- what is known of the rows of an object: none was handed on
@@ -180,7 +180,7 @@ module _ {S L P : Type 0} (F : Layouts S L P) (declared : List L) (callers : Lis
       let rows : HasRows F s o declaration.0 chain.0 = fitting.each o declaration.0 chain.0 declaration.1 chain.1 in
       let none : chain.0.past ≡ [] = none_past o declaration.0 chain.0 rows.rows.fits in
       let alone : chain.0.row.layout ∷ [] ≡ layouts_of s o ++ declaration.0 ∷ [] =
-      sym (ap (λ (past : List (Turn L P)). chain.0.row.layout ∷ map (λ turn. turn.row.layout) past) none) ∙ rows.rows.layouts in
+      sym (ap (λ (past : List (Turn L P O R)). chain.0.row.layout ∷ map (λ turn. turn.row.layout) past) none) ∙ rows.rows.layouts in
       record {
         declaration = declaration.0;
         declares = declaration.1;
@@ -237,7 +237,7 @@ module _ {S L P : Type 0} (F : Layouts S L P) (declared : List L) (callers : Lis
   pub many_cells_are : length s.turns.cells ≡ length (fresh F declared callers).turns.cells
   many_cells_are =
       let many = many_cells in let objects = r.rule.sound.cells.rows.objects in
-      let first = length-map (first_lives (length declared)) fresh_cell in let long = length-first_lives (length declared) in
+      let first = length-map (first_lives (length declared)) (fresh_cell {O = O} {R = R}) in let long = length-first_lives (length declared) in
       omega (arith, many, objects, first, long)
 
   pub cell_new : (n : ℕ) → place_of n < F.procs → cell s n ≡ cell (fresh F declared callers) n

@@ -42,15 +42,15 @@ inactive p generation x none = ap (λ active. eqb x.proc p && is_in active gener
   and_false true = refl
   and_false false = refl
 
-module _ {S L P : Type 0} (F : Layouts S L P) (declared : List L) (callers : List ℕ) (table : State (Slot P) (View P))
+module _ {S L P O R : Type 0} (F : Layouts S L P O R) (declared : List L) (callers : List ℕ) (table : State (Slot P O R) (View P O R))
     (r : Ruled F declared (length callers) table) (new : AreNewPasses F.procs (length declared) callers table.views) where
-  abbrev pub s : Joined L
+  abbrev pub s : Joined L O R
   s = r.rule.state
 
   abbrev pub g : Generations
   g = r.rule.state.phases.turns
 
-  abbrev pub t : Turns
+  abbrev pub t : Turns O R
   t = r.rule.state.turns
 
   abbrev home_of : ℕ → ℕ

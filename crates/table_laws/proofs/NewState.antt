@@ -61,9 +61,9 @@ quiet_is procs layout k quiet = λ j. record {
   freed = quiet.freed j;
 }
 
-module _ {S L P : Type 0} (F : Layouts S L P) (declared : List L) (callers : List ℕ) (table : State (Slot P) (View P))
+module _ {S L P O R : Type 0} (F : Layouts S L P O R) (declared : List L) (callers : List ℕ) (table : State (Slot P O R) (View P O R))
     (r : Ruled F declared (length callers) table) (new : AreNewPasses F.procs (length declared) callers table.views) where
-  abbrev s : Joined L
+  abbrev s : Joined L O R
   s = r.rule.state
 
   -- no caller is counted at a mediator

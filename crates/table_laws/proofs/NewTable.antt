@@ -36,13 +36,13 @@ many_unshown = refl
 one_shown : proc_in_words (record { generation = 0; entered = 1; exits_even = 1; exits_odd = 0 }) ≡ fresh_proc → ⊥
 one_shown is = let one = ap (λ (k : GenProc). k.entered) is in omega (arith, one)
 
-module _ {S L P : Type 0} (F : Layouts S L P) (declared : List L) (callers : List ℕ) (table : State (Slot P) (View P))
+module _ {S L P O R : Type 0} (F : Layouts S L P O R) (declared : List L) (callers : List ℕ) (table : State (Slot P O R) (View P O R))
     (r : Ruled F declared (length callers) table) (new : AreNewPasses F.procs (length declared) callers table.views)
     (blank : AreBlank F.procs (length declared) table.words) (all : F.procs ≡ PROCESSORS) where
-  abbrev s : Joined L
+  abbrev s : Joined L O R
   s = r.rule.state
 
-  abbrev n : Joined L
+  abbrev n : Joined L O R
   n = fresh F declared callers
 
   like : IsNew F declared callers s

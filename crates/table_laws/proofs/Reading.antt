@@ -61,7 +61,7 @@ object_is_read words o k shown fits = record {
   read : IsRead k (slice_index words (object_word o))
   read = object_read k (slice_index words (object_word o)) small shown.word
 
-pub numbers_read : {S L P : Type 0} (F : Layouts S L P) (declared : List L) (table : State (Slot P) (View P)) (r : Rule F declared table) → NumbersAreRead table.words r.state
+pub numbers_read : {S L P O R : Type 0} (F : Layouts S L P O R) (declared : List L) (table : State (Slot P O R) (View P O R)) (r : Rule F declared table) → NumbersAreRead table.words r.state
 numbers_read F declared table r =
     let fit = numbers_are F declared table r in
     record {

@@ -28,9 +28,9 @@ use Rattle.table_laws.proofs.Renamed.{renamed_here, renamed_else, renamed_both, 
 abbrev pub beside_seated : {P : Type 0} → Beside P → (ℕ → ℕ) → (Row → ℕ) → Beside P
 beside_seated beside seat names = record beside { seat = seat; row_seat = names }
 
-module _ {S L P : Type 0} (F : Layouts S L P) (declared : List L) where
-  pub still : (table : State (Slot P) (View P)) (r : Rule F declared table) (seat : ℕ → ℕ) (names : Row → ℕ) (views : List (View P))
-      → ((j : ℕ) (view : View P) → get_elem? views j ≡ some view → Knows F.tag_of r.state (beside_seated r.beside seat names) j view)
+module _ {S L P O R : Type 0} (F : Layouts S L P O R) (declared : List L) where
+  pub still : (table : State (Slot P O R) (View P O R)) (r : Rule F declared table) (seat : ℕ → ℕ) (names : Row → ℕ) (views : List (View P O R))
+      → ((j : ℕ) (view : View P O R) → get_elem? views j ≡ some view → Knows F.tag_of r.state (beside_seated r.beside seat names) j view)
       → ShowsStill F declared r (record { words = table.words; homes = table.homes; views = views })
   still table r seat names views seats = record {
     after = record {
@@ -53,7 +53,7 @@ module _ {S L P : Type 0} (F : Layouts S L P) (declared : List L) where
     freed = λ o. le_refl _;
   }
 
-  module _ (id : ℕ) (v : PassView P) where
+  module _ (id : ℕ) (v : PassView P O R) where
     -- a row of the pass gets a seat
     module _ (row : Row) (rest : List Row) (rows_are : v.rows ≡ rest ++ row ∷ []) where
       pub row_named : SplitStays F declared id (Crew (v ∷ [])) (Crew (record v { rows = rest; granted = min v.granted (length rest) } ∷ [])) (Named row)
@@ -65,7 +65,7 @@ module _ {S L P : Type 0} (F : Layouts S L P) (declared : List L) where
             names : Row → ℕ
             names = renamed row (length table.views) r.beside.row_seat
 
-            w : PassView P
+            w : PassView P O R
             w = record v { rows = rest; granted = min v.granted (length rest) }
 
             k : KnowsPass F.tag_of r.state r.beside id v
@@ -101,7 +101,7 @@ module _ {S L P : Type 0} (F : Layouts S L P) (declared : List L) where
                   (ap (λ (l : List Row). slice_get (take v.granted l) place) rows_are
                   ∙ in_front v.granted rest (row ∷ []) place other (ap (λ l. slice_get l place) (sym (take_min v.granted rest)) ∙ e)))
 
-              each : (place : ℕ) (x : PassView P) → slice_get (w ∷ []) place ≡ Some x → KnowsPass F.tag_of r.state (beside_named r.beside names) id x
+              each : (place : ℕ) (x : PassView P O R) → slice_get (w ∷ []) place ≡ Some x → KnowsPass F.tag_of r.state (beside_named r.beside names) id x
               each zero x e = subst (KnowsPass F.tag_of r.state (beside_named r.beside names) id) (same_Some w x e) mine
               each (suc place) x e = absurd (cc)
 
@@ -120,7 +120,7 @@ module _ {S L P : Type 0} (F : Layouts S L P) (declared : List L) where
             names : Row → ℕ
             names = renamed row id r.beside.row_seat
 
-            w : PassView P
+            w : PassView P O R
             w = record v { rows = v.rows ++ row ∷ []; granted = granted }
 
             k : KnowsPass F.tag_of r.state r.beside id v
@@ -159,7 +159,7 @@ module _ {S L P : Type 0} (F : Layouts S L P) (declared : List L) where
                   (at_push v.rows row i x e))
                   (grants k.phases.rows.granted)
 
-              each : (place : ℕ) (x : PassView P) → slice_get (w ∷ []) place ≡ Some x → KnowsPass F.tag_of r.state (beside_named r.beside names) id x
+              each : (place : ℕ) (x : PassView P O R) → slice_get (w ∷ []) place ≡ Some x → KnowsPass F.tag_of r.state (beside_named r.beside names) id x
               each zero x e = subst (KnowsPass F.tag_of r.state (beside_named r.beside names) id) (same_Some w x e) mine
               each (suc place) x e = absurd (cc)
 
@@ -199,8 +199,8 @@ module _ {S L P : Type 0} (F : Layouts S L P) (declared : List L) where
   set_same (x ∷ words) zero = refl
   set_same (x ∷ words) (suc i) = ap (λ l. x ∷ l) (set_same words i)
 
-  pub read_stays : (word id found : ℕ) (v : PassView P) → StateStays F declared word (λ n. n) id v found v
+  pub read_stays : (word id found : ℕ) (v : PassView P O R) → StateStays F declared word (λ n. n) id v found v
   read_stays word id found v table r at is =
-      subst (λ (t : State (Slot P) (View P)). (after : Rule F declared t) × (after.state ≡ r.state))
+      subst (λ (t : State (Slot P O R) (View P O R)). (after : Rule F declared t) × (after.state ≡ r.state))
       (λ i. record { words = sym (ap (λ n. set table.words word n) (sym is) ∙ set_same table.words word) i; homes = table.homes; views = sym (set_again table.views id (Crew (v ∷ [])) at) i })
       (r, refl)

@@ -30,7 +30,7 @@ pub record ObjectIsRead (words : List ℕ) (o : ℕ) (k : Object) : Type 0 where
   pub entries : EachPlace (λ p e. entry_in (slice_index words (local_word p o)) ≡ e) k.entries
 
 -- the word of a processor that the pass enters is changed so
-abbrev pub entering : {S L P : Type 0} → Layouts S L P → PassView P → ℕ → ℕ
+abbrev pub entering : {S L P O R : Type 0} → Layouts S L P O R → PassView P O R → ℕ → ℕ
 entering {S} {L} F v = (enter {S = S} {L = L} v).changed
 
 -- A change of a processor's word counts one entry more, and its carry drops off.
@@ -39,6 +39,6 @@ pub record CountsEntry (changed : ℕ → ℕ) (word : ℕ) : Type 0 where
   pub entries : entries_in (changed word) ≡ (entries_in word + 1) % 2 ^ 32
 
 -- No count runs over into the field beside it.
-pub record NumbersAreRead {L : Type 0} (words : List ℕ) (s : Joined L) : Type 0 where
+pub record NumbersAreRead {L O R : Type 0} (words : List ℕ) (s : Joined L O R) : Type 0 where
   pub processors : EachPlace (ProcessorIsRead words) s.phases.turns.procs
   pub objects : EachPlace (ObjectIsRead words) s.phases.objects

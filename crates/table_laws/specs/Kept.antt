@@ -5,6 +5,6 @@ use Rattle.k42_places.specs.Places.{EachPlace}
 use Rattle.turn_core.specs.Sound.{IsOwn, IsRising}
 
 -- its stamps rise, and each entry is the caller's own, at its index
-pub record IsOwnList (caller : ℕ) (list : List Entry) : Type 0 where
+pub record IsOwnList {O R : Type 0} (caller : ℕ) (list : List (Entry O R)) : Type 0 where
   pub rising : IsRising list
   pub own : EachPlace (IsOwn caller) list

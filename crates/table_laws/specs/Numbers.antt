@@ -33,7 +33,7 @@ pub record ObjectFits (o : ℕ) (k : Object) : Type 0 where
   pub entries : EachPlace LocalFits k.entries
 
 -- an entry that was drawn
-pub record EntryFits (entry : Entry) : Type 0 where
+pub record EntryFits {O R : Type 0} (entry : Entry O R) : Type 0 where
   pub stamp : entry.stamp ≤ LAST_STAMP
   pub caller : entry.caller < CALLERS
   pub index : entry.index < PASS_ENTRIES
@@ -44,10 +44,10 @@ pub record EntryFits (entry : Entry) : Type 0 where
 abbrev pub HolderFits : Option ℕ → Type 0
 HolderFits holder = (c : ℕ) → holder ≡ Some c → c < CALLERS
 
-abbrev pub AllFit : List Entry → Type 0
+abbrev pub AllFit : {O R : Type 0} → List (Entry O R) → Type 0
 AllFit entries = EachPlace (λ place entry. EntryFits entry) entries
 
-pub record NumbersFit {L : Type 0} (s : Joined L) : Type 0 where
+pub record NumbersFit {L O R : Type 0} (s : Joined L O R) : Type 0 where
   pub processors : EachPlace ProcessorFits s.phases.turns.procs
   pub role : HolderFits s.phases.turns.role
   pub objects : EachPlace ObjectFits s.phases.objects

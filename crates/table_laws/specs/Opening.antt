@@ -22,15 +22,15 @@ use Rattle.k42_board.specs.declared.view.View.{View}
 use Rattle.k42_board.specs.declared.view.View.TheVariants.{Crew}
 
 -- a seat has the pass, alone or among others
-pub record HasSeat {P : Type 0} (views : List (View P)) (v : PassView P) : Type 0 where
+pub record HasSeat {P O R : Type 0} (views : List (View P O R)) (v : PassView P O R) : Type 0 where
   pub id : ℕ
-  pub passes : List (PassView P)
+  pub passes : List (PassView P O R)
   pub there : get_elem? views id ≡ some (Crew passes)
   pub place : ℕ
   pub has : slice_get passes place ≡ Some v
 
 -- the pass of each caller, of those on these processors, is new
-abbrev pub AreNewPasses : {P : Type 0} → ℕ → ℕ → List ℕ → List (View P) → Type 0
+abbrev pub AreNewPasses : {P O R : Type 0} → ℕ → ℕ → List ℕ → List (View P O R) → Type 0
 AreNewPasses procs objects callers views =
     EachPlace (λ c home. HasSeat views (new_pass procs objects c home)) callers
 
@@ -62,7 +62,7 @@ abbrev pub turns_in_words : Generations → Generations
 turns_in_words g = record g { procs = map proc_in_words g.procs; callers = map in_words g.callers }
 
 -- and the state, of which all else is told whole
-abbrev pub state_in_words : {L : Type 0} → Joined L → Joined L
+abbrev pub state_in_words : {L O R : Type 0} → Joined L O R → Joined L O R
 state_in_words s = record s { phases = record s.phases { turns = turns_in_words s.phases.turns } }
 
 -- an object is as it was made, but that entries may lead to its row already
@@ -75,14 +75,14 @@ pub record IsAsMade (made k : Object) : Type 0 where
       k.entries
 
 -- nobody holds the cell, and no entry was drawn at it
-pub record IsUnused (x : Cell) : Type 0 where
+pub record IsUnused {O R : Type 0} (x : Cell O R) : Type 0 where
   pub lock : x.lock ≡ None
   pub home : x.home ≡ true
   pub history : x.history ≡ []
 
 -- A state is like another but for how many have been on its processors, for entries that lead to a row, and for cells at
 -- places past the processors.
-pub record IsLike {L : Type 0} (procs : ℕ) (new s : Joined L) : Type 0 where
+pub record IsLike {L O R : Type 0} (procs : ℕ) (new s : Joined L O R) : Type 0 where
   pub role : s.phases.turns.role ≡ new.phases.turns.role
   pub turning : map in_words s.phases.turns.callers ≡ new.phases.turns.callers
   pub many_procs : length s.phases.turns.procs ≡ length new.phases.turns.procs
@@ -98,5 +98,5 @@ pub record IsLike {L : Type 0} (procs : ℕ) (new s : Joined L) : Type 0 where
   pub kept : s.kept ≡ new.kept
 
 -- the state is like the one before the first event
-abbrev pub IsNew : {S L P : Type 0} → Layouts S L P → List L → List ℕ → Joined L → Type 0
+abbrev pub IsNew : {S L P O R : Type 0} → Layouts S L P O R → List L → List ℕ → Joined L O R → Type 0
 IsNew F declared callers s = IsLike F.procs (fresh F declared callers) s

@@ -23,37 +23,37 @@ abbrev pub after_join : {S V : Type 0} → State S V → ℕ → V → ℕ → V
 after_join table id both other spent =
     record { words = table.words; homes = table.homes; views = slice_set (slice_set table.views id both) other spent }
 
-module _ {S L P : Type 0} (F : Layouts S L P) (declared : List L) where
+module _ {S L P O R : Type 0} (F : Layouts S L P O R) (declared : List L) where
   -- The other table shows the same state, and so takes back of no row that it is freed.
-  pub record ShowsStill {table : State (Slot P) (View P)} (r : Rule F declared table) (other : State (Slot P) (View P))
+  pub record ShowsStill {table : State (Slot P O R) (View P O R)} (r : Rule F declared table) (other : State (Slot P O R) (View P O R))
       : Type 0 where
     pub after : Rule F declared other
     pub state : after.state ≡ r.state
     pub freed : KeepsFreed r.state after.state
 
   -- Whatever state the table shows as the seat is split, it shows after;
-  abbrev pub SplitStays : ℕ → View P → View P → View P → Type 0
+  abbrev pub SplitStays : ℕ → View P O R → View P O R → View P O R → Type 0
   SplitStays id view left right =
-      (table : State (Slot P) (View P)) (r : Rule F declared table)
+      (table : State (Slot P O R) (View P O R)) (r : Rule F declared table)
       → get_elem? table.views id ≡ some view → ShowsStill r (after_split table id left right)
 
   -- and so as the seat takes in another.
-  abbrev pub JoinStays : ℕ → View P → ℕ → View P → View P → Type 0
+  abbrev pub JoinStays : ℕ → View P O R → ℕ → View P O R → View P O R → Type 0
   JoinStays id view other taken both =
-      (table : State (Slot P) (View P)) (r : Rule F declared table)
+      (table : State (Slot P O R) (View P O R)) (r : Rule F declared table)
       → get_elem? table.views id ≡ some view → other ≢ id → get_elem? table.views other ≡ some taken
       → ShowsStill r (after_join table id both other Spent)
 
   -- The other table shows the state that is there after the event, which was possible.
-  pub record ShowsEvent {table : State (Slot P) (View P)} (r : Rule F declared table) (event : Event L) (other : State (Slot P) (View P))
+  pub record ShowsEvent {table : State (Slot P O R) (View P O R)} (r : Rule F declared table) (event : Event L O R) (other : State (Slot P O R) (View P O R))
       : Type 0 where
     pub possible : IsPossible F declared r.state event
     pub after : Rule F declared other
     pub state : after.state ≡ effect r.state event
 
   -- Whatever state the table shows as the seat takes in another, that is this event.
-  abbrev pub JoinIs : Event L → ℕ → View P → ℕ → View P → View P → Type 0
+  abbrev pub JoinIs : Event L O R → ℕ → View P O R → ℕ → View P O R → View P O R → Type 0
   JoinIs event id view other taken both =
-      (table : State (Slot P) (View P)) (r : Rule F declared table)
+      (table : State (Slot P O R) (View P O R)) (r : Rule F declared table)
       → get_elem? table.views id ≡ some view → other ≢ id → get_elem? table.views other ≡ some taken
       → ShowsEvent r event (after_join table id both other Spent)

@@ -13,7 +13,7 @@ use k42_rule::{Sys, layouts_are_lawful};
 
 /// A seat that is split off to tell of a pass's clock leaves the state.
 pub fn telling_a_clock_leaves_the_state<L: Layout>(sys: &Sys<L>)
-    ensures { (id : ℕ) (v : PassView L.Part)
+    ensures { (id : ℕ) (v : PassView L.Part L.Op L.Reply)
         → SplitStays
         (layouts_in L.Layout sys.now)
         sys.now.layouts id (Crew (v ∷ [])) (Crew (v ∷ [])) (Drew v.taker.clock) }
@@ -24,7 +24,7 @@ pub fn telling_a_clock_leaves_the_state<L: Layout>(sys: &Sys<L>)
 /// A pass that takes such a seat in has skipped to the stamp, which was possible: of all splits and joins this alone is an
 /// event.
 pub fn taking_a_clock_in_is_a_skip<L: Layout>(sys: &Sys<L>)
-    ensures { (id other stamp : ℕ) (v : PassView L.Part)
+    ensures { (id other stamp : ℕ) (v : PassView L.Part L.Op L.Reply)
         → JoinIs
         (layouts_in L.Layout sys.now)
         sys.now.layouts (AtCells (Skip v.number stamp)) id (Crew (v ∷ [])) other (Drew stamp) (Crew (skipped_view stamp v ∷ [])) }

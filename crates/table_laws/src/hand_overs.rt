@@ -15,7 +15,7 @@ use k42_rule::Sys;
 
 /// A pass that splits a seat off for its newest row leaves the state.
 pub fn naming_leaves_the_state<L: Layout>(sys: &Sys<L>)
-    ensures { (id : ℕ) (v : PassView L.Part) → 0 < length v.rows
+    ensures { (id : ℕ) (v : PassView L.Part L.Op L.Reply) → 0 < length v.rows
         → SplitStays
         (layouts_in L.Layout sys.now)
         sys.now.layouts id (Crew (v ∷ [])) (Crew (without_newest v ∷ [])) (Named (newest v.rows)) }
@@ -25,7 +25,7 @@ pub fn naming_leaves_the_state<L: Layout>(sys: &Sys<L>)
 
 /// So does one that takes in the seat of a row, which it holds then as its newest.
 pub fn taking_in_leaves_the_state<L: Layout>(sys: &Sys<L>)
-    ensures { (id other : ℕ) (v : PassView L.Part) (row : Row) → v.granted ≤ length v.rows
+    ensures { (id other : ℕ) (v : PassView L.Part L.Op L.Reply) (row : Row) → v.granted ≤ length v.rows
         → JoinStays
         (layouts_in L.Layout sys.now)
         sys.now.layouts id (Crew (v ∷ [])) other (Named row) (Crew (with_newest row v ∷ [])) }
@@ -35,7 +35,7 @@ pub fn taking_in_leaves_the_state<L: Layout>(sys: &Sys<L>)
 
 /// Or takes the row back, as a granted one where all that it holds are granted.
 pub fn taking_back_leaves_the_state<L: Layout>(sys: &Sys<L>)
-    ensures { (id other : ℕ) (v : PassView L.Part) (row : Row) (granted : Bool) → v.granted ≤ length v.rows
+    ensures { (id other : ℕ) (v : PassView L.Part L.Op L.Reply) (row : Row) (granted : Bool) → v.granted ≤ length v.rows
         → (granted ≡ true → v.granted ≡ length v.rows) → (granted ≡ true → IsGranted v.visitor.noted row)
         → JoinStays
         (layouts_in L.Layout sys.now)
@@ -47,7 +47,7 @@ pub fn taking_back_leaves_the_state<L: Layout>(sys: &Sys<L>)
 
 /// And one that reads a word and keeps its view, as it does before a push and after a pop.
 pub fn reading_leaves_the_state<L: Layout>(sys: &Sys<L>)
-    ensures { (word id found : ℕ) (v : PassView L.Part)
+    ensures { (word id found : ℕ) (v : PassView L.Part L.Op L.Reply)
         → StateStays (layouts_in L.Layout sys.now) sys.now.layouts word (λ n. n) id v found v }
 {
     let _ = sys.procs();

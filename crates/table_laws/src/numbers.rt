@@ -14,7 +14,7 @@ use k42_rule::Sys;
 
 /// In whatever state the table shows, each count is within its bound.
 pub fn numbers_fit<L: Layout>(sys: &Sys<L>)
-    ensures { (table : State (Slot L.Part) (View L.Part))
+    ensures { (table : State (Slot L.Part L.Op L.Reply) (View L.Part L.Op L.Reply))
         (rule : Rule (layouts_in L.Layout sys.now) sys.now.layouts table)
         → NumbersFit rule.state }
 {
@@ -23,7 +23,7 @@ pub fn numbers_fit<L: Layout>(sys: &Sys<L>)
 
 /// And so what is read of a word's field is the state's number, whatever stands in the other fields.
 pub fn numbers_are_read<L: Layout>(sys: &Sys<L>)
-    ensures { (table : State (Slot L.Part) (View L.Part))
+    ensures { (table : State (Slot L.Part L.Op L.Reply) (View L.Part L.Op L.Reply))
         (rule : Rule (layouts_in L.Layout sys.now) sys.now.layouts table)
         → NumbersAreRead table.words rule.state }
 {
@@ -32,7 +32,7 @@ pub fn numbers_are_read<L: Layout>(sys: &Sys<L>)
 
 /// An enter leaves the generation in its processor's word, whatever count of entries stands beside it.
 pub fn entering_leaves_the_generation<L: Layout>(sys: &Sys<L>)
-    ensures { (pass : PassView L.Part) (word : ℕ)
+    ensures { (pass : PassView L.Part L.Op L.Reply) (word : ℕ)
         → CountsEntry (entering (layouts_in L.Layout sys.now) pass) word }
 {
     let _ = sys.procs();

@@ -15,8 +15,8 @@ use k42_rule::Sys;
 
 /// Every pass of a table that was just opened is new.
 pub fn an_opened_table_has_new_passes<L: Layout>(sys: &Sys<L>)
-    ensures { (words : List ℕ) (slots : List (Slot L.Part))
-        (table : State (Slot L.Part) (View L.Part))
+    ensures { (words : List ℕ) (slots : List (Slot L.Part L.Op L.Reply))
+        (table : State (Slot L.Part L.Op L.Reply) (View L.Part L.Op L.Reply))
         → table
         ≡ opening words slots (first_view sys.now.procs sys.now.layouts sys.now.callers)
         → AreNewPasses sys.now.procs (length sys.now.layouts) sys.now.callers table.views }
@@ -26,7 +26,7 @@ pub fn an_opened_table_has_new_passes<L: Layout>(sys: &Sys<L>)
 
 /// While every pass is new, whatever state the table shows is like the new one.
 pub fn a_new_table_shows_the_new_state<L: Layout>(sys: &Sys<L>)
-    ensures { (table : State (Slot L.Part) (View L.Part))
+    ensures { (table : State (Slot L.Part L.Op L.Reply) (View L.Part L.Op L.Reply))
         (ruled : Ruled
         (layouts_in L.Layout sys.now)
         sys.now.layouts (length sys.now.callers) table)
@@ -39,7 +39,7 @@ pub fn a_new_table_shows_the_new_state<L: Layout>(sys: &Sys<L>)
 /// And where no entry leads anywhere yet, the words of processors are 0, and each place has one, then words and passes
 /// tell of just that state.
 pub fn a_blank_table_shows_just_the_new_state<L: Layout>(sys: &Sys<L>)
-    ensures { (table : State (Slot L.Part) (View L.Part))
+    ensures { (table : State (Slot L.Part L.Op L.Reply) (View L.Part L.Op L.Reply))
         (ruled : Ruled
         (layouts_in L.Layout sys.now)
         sys.now.layouts (length sys.now.callers) table)

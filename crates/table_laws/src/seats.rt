@@ -13,7 +13,7 @@ use k42_rule::Sys;
 
 /// The first pass of a seat that has several gets a seat of its own.
 pub fn dealing_leaves_the_state<L: Layout>(sys: &Sys<L>)
-    ensures { (id : ℕ) (v : PassView L.Part) (rest : List (PassView L.Part)) → v.rows ≡ []
+    ensures { (id : ℕ) (v : PassView L.Part L.Op L.Reply) (rest : List (PassView L.Part L.Op L.Reply)) → v.rows ≡ []
         → SplitStays
         (layouts_in L.Layout sys.now)
         sys.now.layouts id (Crew (v ∷ rest)) (Crew rest) (Crew (v ∷ [])) }
@@ -23,7 +23,7 @@ pub fn dealing_leaves_the_state<L: Layout>(sys: &Sys<L>)
 
 /// The passes of two seats go to the one.
 pub fn gathering_leaves_the_state<L: Layout>(sys: &Sys<L>)
-    ensures { (id other : ℕ) (ours theirs : List (PassView L.Part))
+    ensures { (id other : ℕ) (ours theirs : List (PassView L.Part L.Op L.Reply))
         → JoinStays
         (layouts_in L.Layout sys.now)
         sys.now.layouts id (Crew ours) other (Crew theirs) (Crew (ours ++ theirs)) }
@@ -33,7 +33,7 @@ pub fn gathering_leaves_the_state<L: Layout>(sys: &Sys<L>)
 
 /// A cell at which a pass has drawn gets a seat that tells of it what the pass has noted.
 pub fn telling_leaves_the_state<L: Layout>(sys: &Sys<L>)
-    ensures { (id : ℕ) (v : PassView L.Part)
+    ensures { (id : ℕ) (v : PassView L.Part L.Op L.Reply)
         → SplitStays
         (layouts_in L.Layout sys.now)
         sys.now.layouts id (Crew (v ∷ [])) (Crew (untold_view (after_first v.untold) v ∷ []))

@@ -4,7 +4,7 @@ use Rattle.k42_board.specs.Seen.{SysSeen, PassSeen}
 use Rattle.table_crews.specs.Ready.{HoldsNoCell}
 
 -- it is in an activity, holds no cell, and there is an object
-pub record IsBusy {L P : Type 0} (sys : SysSeen L) (pass : PassSeen P) : Type 0 where
+pub record IsBusy {L P O R : Type 0} (sys : SysSeen L) (pass : PassSeen P O R) : Type 0 where
   pub free : HoldsNoCell sys pass
   pub some : 0 < length sys.layouts
   pub active : is_some pass.view.turn.active ≡ true

@@ -33,7 +33,12 @@ const A_SWAP_AND_A_CALL: &[u8] = b"procs 1\nobject hits counter shared\n\
 worker a 0\nswap hits spread\nworker b 0\nhits get\n";
 
 /// Each entry has this worker, place among its entries, incarnation and answer, and there are no others.
-fn entries_are(rt: &impl Abort, alloc: Global, history: &History, due: &[(u32, u64, u32, Answer)]) {
+fn entries_are(
+    rt: &impl Abort,
+    alloc: Global,
+    history: &History,
+    due: &[(u32, u64, u32, Answer<Reply>)],
+) {
     let entries = history.collect(alloc).expect(rt, "memory");
     assert_eq!(rt; entries.len(), due.len());
     for (entry, one) in entries.iter().zip(due.iter()) {

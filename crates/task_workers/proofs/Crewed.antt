@@ -7,6 +7,8 @@ use Rattle.std.proofs.Math.ListN.{drop_of_length-le}
 use Rattle.k42_places.proofs.Rests.{drop_at}
 use Rattle.k42_places.specs.Places.{EachPair}
 use Rattle.k42_kinds.proofs.Splits.{heads}
+use Rattle.k42_kinds.specs.declared.operation.Op.{Op}
+use Rattle.k42_kinds.specs.declared.operation.Reply.{Reply}
 use Rattle.k42_kinds.specs.declared.entry.Entry.{Entry}
 use Rattle.script_text.specs.declared.script.Item.{Item}
 use Rattle.script_text.specs.declared.script.WorkerLines.{WorkerLines}
@@ -40,7 +42,7 @@ module _ (system : SystemSeen) where
   }
 
   -- what is said of a worker goes by its items and its processor
-  lines_of : (items : List Item) (proc : ℕ) (worker : WorkerLines) (entries : List Entry) → items ≡ worker.items → proc ≡ worker.proc
+  lines_of : (items : List Item) (proc : ℕ) (worker : WorkerLines) (entries : List (Entry Op Reply)) → items ≡ worker.items → proc ≡ worker.proc
       → HasDoneLines (record { name = []; proc = proc; items = items }) entries → HasDoneLines worker entries
   lines_of items proc worker entries same home lines =
       let own = subst (λ (z : List Item × ℕ). HasDoneLines (record { name = []; proc = z.1; items = z.0 }) entries) (λ j. (same j, home j)) lines in

@@ -4,6 +4,8 @@ use Rattle.std.specs.Prelude.{slice_get}
 use Rattle.std.proofs.lemmas.List.Elements.{recursion_from_All}
 use Rattle.std.proofs.lemmas.Option.{same_Some}
 use Rattle.k42_places.proofs.Rests.{drop_at}
+use Rattle.k42_kinds.specs.declared.operation.Op.{Op}
+use Rattle.k42_kinds.specs.declared.operation.Reply.{Reply}
 use Rattle.k42_kinds.specs.declared.entry.Act.{Act}
 use Rattle.k42_kinds.specs.declared.entry.Act.TheVariants.{Call, Swap}
 use Rattle.k42_kinds.specs.declared.entry.To.{To}
@@ -43,7 +45,7 @@ is_under_way (Calling call) = true
 is_under_way (Swapping swap) = true
 is_under_way Over = false
 
-started_going : (object : ℕ) (act : Act) → is_under_way (started object act) ≡ true
+started_going : (object : ℕ) (act : Act Op) → is_under_way (started object act) ≡ true
 started_going object (Call op) = refl
 started_going object (Swap to) = refl
 
@@ -60,7 +62,7 @@ line_under_way system task (Calling call) under way = way
 line_under_way system task (Swapping swap) under way = way
 line_under_way system task Over under way = cc
 
-with_graces : (at : TaskAt) (v : PassView SystemPart) → v.graces ≤ graces_with at v
+with_graces : (at : TaskAt) (v : PassView SystemPart Op Reply) → v.graces ≤ graces_with at v
 with_graces Between v = omega arith
 with_graces (Calling call) v = omega arith
 with_graces (Swapping swap) v = omega arith
@@ -98,7 +100,7 @@ module _ (system : SystemSeen) (task : WorkerTask) (ready : IsReady system.plan 
       within = within (graces_with place task.pass.view) one;
     }
 
-    starts : (act : Act) → line.act ≡ act → IsOnWay system (started line.object act) task
+    starts : (act : Act Op) → line.act ≡ act → IsOnWay system (started line.object act) task
     starts (Call op) is =
         in_line (started line.object (Call op)) (refl, is) (refl, subst (MayAsk system.plan line.object) is asked, at.between)
         (omega arith)

@@ -3,6 +3,7 @@ use Rattle.std.proofs.Common.{◌≡◌, ℕ, suc, ◌+◌, ◌≤◌, Bool, tru
 use Rattle.std.specs.Prelude.{if◌then◌else◌, slice_get}
 use Rattle.std.proofs.lemmas.Option.{same_Some, none-some}
 use Rattle.k42_places.proofs.Rests.{drop_at}
+use Rattle.k42_kinds.specs.declared.operation.Reply.{Reply}
 use Rattle.k42_kinds.specs.declared.entry.Act.{Act}
 use Rattle.k42_kinds.specs.declared.entry.Act.TheVariants.{Call, Swap}
 use Rattle.k42_kinds.specs.declared.entry.Entry.{Entry}
@@ -24,17 +25,17 @@ use Rattle.task_workers.specs.declared.tasks.TaskCause.{TaskCause}
 use Rattle.task_workers.specs.declared.tasks.WorkerTask.{WorkerTask}
 use Rattle.task_workers.proofs.LinesBegun.{outside_swap, same_line}
 
-AreLatest : Option ℕ → List Entry → Type 0
+AreLatest : Option ℕ → List (Entry Op Reply) → Type 0
 AreLatest active entries = (generation : ℕ) → active ≡ Some generation → IsLatest generation entries
 
 -- a call in its own activity is one of no block
-goes_without : (inside : Bool) (active : Option ℕ) (entries : List Entry) (generation : ℕ) → ((p : ℕ) → active ≡ Some p → IsLatest p entries) → GoesOn active entries generation
+goes_without : (inside : Bool) (active : Option ℕ) (entries : List (Entry Op Reply)) (generation : ℕ) → ((p : ℕ) → active ≡ Some p → IsLatest p entries) → GoesOn active entries generation
     → GoesOn (if inside then active else None) entries generation
 goes_without true active entries generation latest on = on
 goes_without false None entries generation latest on = on
 goes_without false (Some p) entries generation latest on = subst (λ (g : ℕ). IsLatest g entries) (sym on) (latest p refl)
 
-timed_without : (act : Act) (inside : Bool) (old : Standing) (drawn after : Option ℕ)
+timed_without : (act : Act Op) (inside : Bool) (old : Standing) (drawn after : Option ℕ)
     → ((op : Op) → act ≡ Call op → (p : ℕ) → old.active ≡ Some p → IsLatest p old.entries) → IsTimed act inside old drawn after
     → IsTimed act inside (without_own inside old) drawn after
 timed_without (Call op) inside old drawn after latest timed = record {
@@ -46,11 +47,11 @@ timed_without (Call op) inside old drawn after latest timed = record {
 timed_without (Swap to) inside old drawn after latest timed = record { drawn_in = timed.drawn_in; left = timed.left }
 
 -- a call goes on behind all that was drawn before
-risen : (active : Option ℕ) (entries : List Entry) (generation : ℕ) → ((p : ℕ) → active ≡ Some p → IsLatest p entries) → GoesOn active entries generation → IsLatest generation entries
+risen : (active : Option ℕ) (entries : List (Entry Op Reply)) (generation : ℕ) → ((p : ℕ) → active ≡ Some p → IsLatest p entries) → GoesOn active entries generation → IsLatest generation entries
 risen (Some p) entries generation latest on = subst (λ (g : ℕ). IsLatest g entries) (sym on) (latest p refl)
 risen None entries generation latest on = on
 
-levelled : (active : Option ℕ) (entries : List Entry) (generation f : ℕ) → GoesOn active entries generation → active ≡ Some f → Some generation ≡ Some f
+levelled : (active : Option ℕ) (entries : List (Entry Op Reply)) (generation f : ℕ) → GoesOn active entries generation → active ≡ Some f → Some generation ≡ Some f
 levelled (Some p) entries generation f on is = ap Some on ∙ is
 levelled None entries generation f on is = absurd (none-some f is)
 
@@ -80,12 +81,12 @@ opened_on worker place old new way opened = subst (IsUnderWay worker place true)
 opened_without : (worker : WorkerLines) (place : ℕ) (inside : Bool) (old new : Standing) → IsUnderWay worker place inside (without_own inside old) → IsOpened old new
     → IsUnderWay worker place inside (without_own inside new)
 opened_without worker place true old new way opened = opened_on worker place old new way opened
-opened_without worker place false old new way opened = subst (λ (entries : List Entry). IsUnderWay worker place false (record { entries = entries; active = None })) (sym opened.entries) way
+opened_without worker place false old new way opened = subst (λ (entries : List (Entry Op Reply)). IsUnderWay worker place false (record { entries = entries; active = None })) (sym opened.entries) way
 
 drawn_without : (worker : WorkerLines) (place : ℕ) (inside : Bool) (old new : Standing) → inside ≡ false → new.entries ≡ old.entries → IsUnderWay worker place inside (without_own inside old)
     → IsUnderWay worker place inside (without_own inside new)
 drawn_without worker place true old new out same way = absurd (cc)
-drawn_without worker place false old new out same way = subst (λ (entries : List Entry). IsUnderWay worker place false (record { entries = entries; active = None })) (sym same) way
+drawn_without worker place false old new out same way = subst (λ (entries : List (Entry Op Reply)). IsUnderWay worker place false (record { entries = entries; active = None })) (sym same) way
 
 module _ (system : SystemSeen) (task : WorkerTask) (line : CallLine) (next : slice_get task.items.now task.done ≡ Some (Line line)) where
   line_on : (at : TaskAt) → IsOfLine line at → IsOnWay system at task → IsInLine system at task
@@ -152,7 +153,7 @@ module _ (system : SystemSeen) (task : WorkerTask) (line : CallLine) (next : sli
       latest_in : (op : Op) → line.act ≡ Call op → IsOpened (standing_of task.pass.view) (standing_of new.view) → (generation : ℕ) → new.view.turn.active ≡ Some generation
           → IsLatest generation new.view.taker.mine
       latest_in op is opened generation active =
-          subst (λ (entries : List Entry). IsLatest generation entries) (sym opened.entries)
+          subst (λ (entries : List (Entry Op Reply)). IsLatest generation entries) (sym opened.entries)
           (subst (λ (g : ℕ). IsLatest g task.pass.view.taker.mine) (same_Some opened.generation generation (sym opened.active ∙ active))
           (risen task.pass.view.turn.active task.pass.view.taker.mine opened.generation (on_latest op is) opened.goes_on))
 

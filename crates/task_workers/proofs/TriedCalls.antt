@@ -1,6 +1,7 @@
 -- A call that is tried once: what it leaves when it is done, held up, or without memory.
 use Rattle.std.proofs.Common.{◌≡◌, ℕ, ◌+◌, Bool, true, false, Option, Some, None, List, [], ◌∷◌, ◌++◌, is_some, length, refl, sym, ap, ◌∙◌, subst, arith}
 use Rattle.std.specs.Prelude.{if◌then◌else◌}
+use Rattle.k42_kinds.specs.declared.operation.Op.{Op}
 use Rattle.k42_kinds.specs.declared.entry.Act.{Act}
 use Rattle.k42_kinds.specs.declared.entry.Act.TheVariants.{Call}
 use Rattle.k42_kinds.specs.declared.entry.Entry.{Entry}
@@ -23,7 +24,7 @@ use Rattle.task_workers.specs.Tries.{IsDone, IsHeldUp, IsSame}
 use Rattle.task_workers.specs.declared.tasks.TaskAt.TheVariants.{Calling}
 use Rattle.task_workers.specs.declared.tasks.TaskCause.TheVariants.{Call as HeldCall}
 
-same_active : (old new : PassView SystemPart) → KeepsElse old new → new.turn.active ≡ old.turn.active
+same_active : (old new : PassView SystemPart Op Reply) → KeepsElse old new → new.turn.active ≡ old.turn.active
 same_active old new keeps = ap (λ (own : Own). own.turn.active) keeps
 
 -- the step into an activity meets nothing
@@ -34,7 +35,7 @@ meets_none old mid false is stays entered =
     extends_as (entered is) (extends_one (step_at steps.Enter (generation_word old.view.turn.proc) (last_found mid.view.log)) old.view.log refl)
 
 -- so that what a call met after it was met since before it
-held_since : (cause : CallCause) (object : ℕ) (old mid new : PassView SystemPart) → mid.number ≡ old.number → mid.turn.proc ≡ old.turn.proc → Extends old.log mid.log
+held_since : (cause : CallCause) (object : ℕ) (old mid new : PassView SystemPart Op Reply) → mid.number ≡ old.number → mid.turn.proc ≡ old.turn.proc → Extends old.log mid.log
     → HoldsUp cause object mid new → HoldsUp cause object old new
 held_since causes.Blocked object old mid new number proc free is = record { found = is.found; blocked = is.blocked; met = meets_on free is.met }
 held_since (causes.Elsewhere word) object old mid new number proc free is =
@@ -74,7 +75,7 @@ module _ (system : SystemSeen) (line : CallLine) (inside : Bool) (call : CallSee
   call_done reply made new called between left same =
       let whole = called.whole in let entry = called.entry in
       let was : made.view.turn.active ≡ Some opened.generation = same_active mid.view made.view called.keeps ∙ opened.active in
-      let drawn_in : entry.generation ≡ Some opened.generation = ap (λ (e : Entry). e.generation) whole ∙ opened.active in
+      let drawn_in : entry.generation ≡ Some opened.generation = ap (λ (e : Entry Op Reply). e.generation) whole ∙ opened.active in
       let after : new.view.turn.active ≡ left_open inside opened.generation =
       ap (λ (s : Standing). s.active) left ∙ ap (λ (active : Option ℕ). if inside then active else None) was in
       let timed : IsTimed (Call call.op) inside (standing_of old.view) entry.generation new.view.turn.active =
@@ -83,11 +84,11 @@ module _ (system : SystemSeen) (line : CallLine) (inside : Bool) (call : CallSee
         between = between;
         answered = record {
           entry = entry;
-          drawn = ap (λ (s : Standing). s.entries) left ∙ called.drawn ∙ ap (λ (mine : List Entry). mine ++ entry ∷ []) opened.entries;
+          drawn = ap (λ (s : Standing). s.entries) left ∙ called.drawn ∙ ap (λ (mine : List (Entry Op Reply)). mine ++ entry ∷ []) opened.entries;
           deed = ap deed_of whole ∙ (λ j. record { index = length (opened.entries j); object = sym of.0 j; act = sym of.1 j });
-          processor = ap (λ (e : Entry). e.proc) whole ∙ on.proc;
-          kept = subst IsNotGivenUp (sym (ap (λ (e : Entry). e.answer) whole)) tt;
-          timed = subst (λ (act : Act). IsTimed act inside (standing_of old.view) entry.generation new.view.turn.active) (sym of.1) timed;
+          processor = ap (λ (e : Entry Op Reply). e.proc) whole ∙ on.proc;
+          kept = subst IsNotGivenUp (sym (ap (λ (e : Entry Op Reply). e.answer) whole)) tt;
+          timed = subst (λ (act : Act Op). IsTimed act inside (standing_of old.view) entry.generation new.view.turn.active) (sym of.1) timed;
         };
         graces = let steady = ap (λ (own : Own). own.graces) called.keeps in let last = same.graces in omega (arith, level, steady, last);
       }

@@ -1,5 +1,7 @@
 -- A line of a task: how it begins, how it is tried, and what holds it up.
 use Rattle.std.specs.Prelude.{◌≡◌, ℕ, ◌+◌, ◌≤◌, Bool, false, length, Option, Some, None, Result, Ok, Err}
+use Rattle.k42_kinds.specs.declared.operation.Op.{Op}
+use Rattle.k42_kinds.specs.declared.operation.Reply.{Reply}
 use Rattle.k42_kinds.specs.declared.entry.Act.{Act}
 use Rattle.k42_kinds.specs.declared.entry.Act.TheVariants.{Call, Swap}
 use Rattle.k42_board.specs.declared.view.PassView.{PassView}
@@ -16,7 +18,7 @@ use Rattle.task_workers.specs.declared.tasks.TaskCause.{TaskCause}
 use Rattle.task_workers.specs.declared.tasks.TaskCause.TheVariants as causes
 
 -- a call or a swap that has not begun
-abbrev pub started : ℕ → Act → TaskAt
+abbrev pub started : ℕ → Act Op → TaskAt
 started object (Call op) = tasks.Calling (record { object = object; op = op; ended = false })
 started object (Swap to) = tasks.Swapping (record { object = object; to = to; stage = New; holder = None })
 
@@ -26,7 +28,7 @@ begun_at line tasks.Between = started line.object line.act
 begun_at line at = at
 
 -- how many graces the pass has begun once the line is done
-abbrev pub graces_with : TaskAt → PassView SystemPart → ℕ
+abbrev pub graces_with : TaskAt → PassView SystemPart Op Reply → ℕ
 graces_with (tasks.Swapping swap) v = v.graces + graces_due swap.stage swap.holder
 graces_with at v = v.graces
 

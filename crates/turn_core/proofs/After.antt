@@ -14,11 +14,11 @@ use Rattle.turn_core.proofs.Changed.{length-change_cells, callers-change_cells}
 use Rattle.turn_core.proofs.Kept.{IsInRange, keeps_effect}
 
 -- as many cells and callers
-pub record HasAsMany (s t : Turns) : Type 0 where
+pub record HasAsMany {O R : Type 0} (s t : Turns O R) : Type 0 where
   pub cells : length t.cells ≡ length s.cells
   pub callers : length t.callers ≡ length s.callers
 
-pub as_many-effect : (s : Turns) (event : TurnEvent) → HasAsMany s (effect s event)
+pub as_many-effect : {O R : Type 0} (s : Turns O R) (event : TurnEvent O R) → HasAsMany s (effect s event)
 as_many-effect s (Lock c n) = go (cell_at s n).lock where
   go : (lock : Option ℕ) → HasAsMany s (locked s c n lock)
   go None = record { cells = length-set s.cells n (cell_locked c (cell_at s n)); callers = length-set s.callers c (caller_locked n (caller_at s c)) }
@@ -39,12 +39,12 @@ as_many-effect s (Put c n) = record { cells = length-set s.cells n (cell_put (ce
 as_many-effect s (Unlock c n) = record { cells = length-set s.cells n (cell_unlocked (cell_at s n)); callers = length-set s.callers c (caller_unlocked n (caller_at s c)) }
 as_many-effect s (Skip c stamp) = record { cells = refl; callers = length-set s.callers c (caller_skipped stamp (caller_at s c)) }
 
-pub as_many-after : (result : Result Bool Memory) (s t : Turns) (event : TurnEvent) → Applies result s t event → HasAsMany s t
+pub as_many-after : {O R : Type 0} (result : Result Bool Memory) (s t : Turns O R) (event : TurnEvent O R) → Applies result s t event → HasAsMany s t
 as_many-after (Ok true) s t event applies = subst (HasAsMany s) (sym applies.1) (as_many-effect s event)
 as_many-after (Ok false) s t event applies = subst (HasAsMany s) (sym applies.1) (record { cells = refl; callers = refl })
 as_many-after (Err memory) s t event applies = subst (HasAsMany s) (sym applies) (record { cells = refl; callers = refl })
 
-pub sound-after : (result : Result Bool Memory) (s t : Turns) (event : TurnEvent) → Applies result s t event → IsSound s → IsInRange s event → IsSound t
+pub sound-after : {O R : Type 0} (result : Result Bool Memory) (s t : Turns O R) (event : TurnEvent O R) → Applies result s t event → IsSound s → IsInRange s event → IsSound t
 sound-after (Ok true) s t event applies sound range = subst IsSound (sym applies.1) (keeps_effect s event sound range applies.0)
 sound-after (Ok false) s t event applies sound range = subst IsSound (sym applies.1) sound
 sound-after (Err memory) s t event applies sound range = subst IsSound (sym applies) sound

@@ -13,13 +13,13 @@ use Rattle.turn_core.specs.Runs.{happens}
 use Rattle.turn_core.proofs.Named.{first_not, further_not, cell_at-change_else}
 use Rattle.turn_core.proofs.Changed.{callers-change_cells}
 
-caller-change_else : (changed : Caller → Caller) (s : Turns) (c d : ℕ) → d ≢ c → caller_at (change_caller changed s c) d ≡ caller_at s d
+caller-change_else : {O R : Type 0} (changed : Caller O R → Caller O R) (s : Turns O R) (c d : ℕ) → d ≢ c → caller_at (change_caller changed s c) d ≡ caller_at s d
 caller-change_else changed s c d apart = get_or-set_other s.callers c d (changed (caller_at s c)) fresh_caller apart
 
-caller-change_cells : (changed : Cell → Cell) (s : Turns) (cells : List ℕ) (d : ℕ) → caller_at (change_cells changed s cells) d ≡ caller_at s d
+caller-change_cells : {O R : Type 0} (changed : Cell O R → Cell O R) (s : Turns O R) (cells : List ℕ) (d : ℕ) → caller_at (change_cells changed s cells) d ≡ caller_at s d
 caller-change_cells changed s cells d = ap (λ callers. get_or callers d fresh_caller) (callers-change_cells changed s cells)
 
-cell-change_cells : (changed : Cell → Cell) (s : Turns) (cells : List ℕ) (m : ℕ) → names cells m ≡ false → cell_at (change_cells changed s cells) m ≡ cell_at s m
+cell-change_cells : {O R : Type 0} (changed : Cell O R → Cell O R) (s : Turns O R) (cells : List ℕ) (m : ℕ) → names cells m ≡ false → cell_at (change_cells changed s cells) m ≡ cell_at s m
 cell-change_cells changed s [] m unnamed = refl
 cell-change_cells changed s (n ∷ cells) m unnamed = cell-change_cells changed (change_cell changed s n) cells m (further_not n m cells unnamed) ∙ cell_at-change_else changed s n m (first_not n m cells unnamed)
 
@@ -29,7 +29,7 @@ either from onto m unnamed = go (names from m) (names onto m) (sym (list_any-app
   go true b e = cc
   go false b e = (refl, e)
 
-caller-effect : (s : Turns) (event : TurnEvent) (d : ℕ) → d ≢ caller_of event → caller_at (effect s event) d ≡ caller_at s d
+caller-effect : {O R : Type 0} (s : Turns O R) (event : TurnEvent O R) (d : ℕ) → d ≢ caller_of event → caller_at (effect s event) d ≡ caller_at s d
 caller-effect s (Lock c n) d apart = go (cell_at s n).lock where
   go : (lock : Option ℕ) → caller_at (locked s c n lock) d ≡ caller_at s d
   go None = caller-change_else (caller_locked n) (change_cell (cell_locked c) s n) c d apart
@@ -44,7 +44,7 @@ caller-effect s (Put c n) d apart = refl
 caller-effect s (Unlock c n) d apart = caller-change_else (caller_unlocked n) (change_cell cell_unlocked s n) c d apart
 caller-effect s (Skip c stamp) d apart = caller-change_else (caller_skipped stamp) s c d apart
 
-cell-effect : (s : Turns) (event : TurnEvent) (m : ℕ) → names (cells_of event) m ≡ false → cell_at (effect s event) m ≡ cell_at s m
+cell-effect : {O R : Type 0} (s : Turns O R) (event : TurnEvent O R) (m : ℕ) → names (cells_of event) m ≡ false → cell_at (effect s event) m ≡ cell_at s m
 cell-effect s (Lock c n) m unnamed = go (cell_at s n).lock where
   go : (lock : Option ℕ) → cell_at (locked s c n lock) m ≡ cell_at s m
   go None = cell_at-change_else (cell_locked c) s n m (first_not n m [] unnamed)
@@ -60,13 +60,13 @@ cell-effect s (Put c n) m unnamed = cell_at-change_else cell_put s n m (first_no
 cell-effect s (Unlock c n) m unnamed = cell_at-change_else cell_unlocked s n m (first_not n m [] unnamed)
 cell-effect s (Skip c stamp) m unnamed = refl
 
-pub caller-happens : (s : Turns) (event : TurnEvent) (d : ℕ) → d ≢ caller_of event → caller_at (happens s event) d ≡ caller_at s d
+pub caller-happens : {O R : Type 0} (s : Turns O R) (event : TurnEvent O R) (d : ℕ) → d ≢ caller_of event → caller_at (happens s event) d ≡ caller_at s d
 caller-happens s event d apart = go (is_possible s event) where
   go : (possible : Bool) → caller_at (cond possible (effect s event) s) d ≡ caller_at s d
   go true = caller-effect s event d apart
   go false = refl
 
-pub cell-happens : (s : Turns) (event : TurnEvent) (m : ℕ) → names (cells_of event) m ≡ false → cell_at (happens s event) m ≡ cell_at s m
+pub cell-happens : {O R : Type 0} (s : Turns O R) (event : TurnEvent O R) (m : ℕ) → names (cells_of event) m ≡ false → cell_at (happens s event) m ≡ cell_at s m
 cell-happens s event m unnamed = go (is_possible s event) where
   go : (possible : Bool) → cell_at (cond possible (effect s event) s) m ≡ cell_at s m
   go true = cell-effect s event m unnamed

@@ -11,17 +11,17 @@ use Rattle.turn_core.specs.State.{cell_at, fresh_cell, change_cell, change_cells
 use Rattle.turn_core.specs.Names.{names, names_once}
 use Rattle.turn_core.proofs.Named.{rest_once}
 
-pub length-change_cells : (changed : Cell → Cell) (s : Turns) (cells : List ℕ) → length (change_cells changed s cells).cells ≡ length s.cells
+pub length-change_cells : {O R : Type 0} (changed : Cell O R → Cell O R) (s : Turns O R) (cells : List ℕ) → length (change_cells changed s cells).cells ≡ length s.cells
 length-change_cells changed s [] = refl
 length-change_cells changed s (n ∷ cells) = length-change_cells changed (change_cell changed s n) cells ∙ length-set s.cells n (changed (cell_at s n))
 
-pub callers-change_cells : (changed : Cell → Cell) (s : Turns) (cells : List ℕ) → (change_cells changed s cells).callers ≡ s.callers
+pub callers-change_cells : {O R : Type 0} (changed : Cell O R → Cell O R) (s : Turns O R) (cells : List ℕ) → (change_cells changed s cells).callers ≡ s.callers
 callers-change_cells changed s [] = refl
 callers-change_cells changed s (n ∷ cells) = callers-change_cells changed (change_cell changed s n) cells
 
 -- the cell was there, and was changed if it was named
-pub record Was (changed : Cell → Cell) (s : Turns) (cells : List ℕ) (n : ℕ) (y : Cell) : Type 0 where
-  pub before : Cell
+pub record Was {O R : Type 0} (changed : Cell O R → Cell O R) (s : Turns O R) (cells : List ℕ) (n : ℕ) (y : Cell O R) : Type 0 where
+  pub before : Cell O R
   pub there : slice_get s.cells n ≡ Some before
   pub becomes : y ≡ cond (names cells n) (changed before) before
 
@@ -36,7 +36,7 @@ names_further m n cells apart = rw (not_same m n apart) refl where
 once_not : (m : ℕ) (cells : List ℕ) → names_once (m ∷ cells) ≡ true → names cells m ≡ false
 once_not m cells once = not-true (names cells m) (and_parts (not (names cells m)) (names_once cells) once).0
 
-pub at_changed : (changed : Cell → Cell) (s : Turns) (cells : List ℕ) (n : ℕ) (y : Cell) → names_once cells ≡ true → slice_get (change_cells changed s cells).cells n ≡ Some y → Was changed s cells n y
+pub at_changed : {O R : Type 0} (changed : Cell O R → Cell O R) (s : Turns O R) (cells : List ℕ) (n : ℕ) (y : Cell O R) → names_once cells ≡ true → slice_get (change_cells changed s cells).cells n ≡ Some y → Was changed s cells n y
 at_changed changed s [] n y once e = record { before = y; there = e; becomes = refl }
 at_changed changed s (m ∷ cells) n y once e =
     let was = at_changed changed (change_cell changed s m) cells n y (rest_once m cells once) e in

@@ -17,24 +17,24 @@ use Rattle.turn_core.proofs.Growing.{new_stands}
 use Rattle.turn_core.proofs.Drawing.{IsNext, next_parts, above_history, IsTold, AreTold, draw_keeps, same_holder, told_same, told_push, told_begun}
 
 -- the state after the caller drew the entry and no cell was told yet
-abbrev with_mine : Turns → ℕ → Entry → Turns
+abbrev with_mine : {O R : Type 0} → Turns O R → ℕ → Entry O R → Turns O R
 with_mine s c entry = change_caller (caller_drawn entry) s c
 
-pub keeps_alone : (s : Turns) (c : ℕ) (entry : Entry) → IsSound s → c < length s.callers → is_next s c [] entry ≡ true → IsSound (with_mine s c entry)
+pub keeps_alone : {O R : Type 0} (s : Turns O R) (c : ℕ) (entry : Entry O R) → IsSound s → c < length s.callers → is_next s c [] entry ≡ true → IsSound (with_mine s c entry)
 keeps_alone s c entry sound there next = draw_keeps s (with_mine s c entry) c [] entry sound
     (record { there = there; next = next_parts s c [] entry next; callers = refl; many = refl; holders = λ n. refl })
     (λ n y e. (y, e, told_same s c entry y there (sound.cells n y e).histories))
 
 -- the stamp is above the last of each cell that is named
-above : (s : Turns) (c : ℕ) (cells : List ℕ) (entry : Entry) (n : ℕ) (x : Cell) → IsNext s c cells entry → names cells n ≡ true → slice_get s.cells n ≡ Some x → last_stamp x.history < entry.stamp
-above s c cells entry n x next named e = subst (λ (cell : Cell). last_stamp cell.history < entry.stamp) (get_or_from_slice_get s.cells n x (fresh_cell 0) e) (above_history s c cells entry n next named)
+above : {O R : Type 0} (s : Turns O R) (c : ℕ) (cells : List ℕ) (entry : Entry O R) (n : ℕ) (x : Cell O R) → IsNext s c cells entry → names cells n ≡ true → slice_get s.cells n ≡ Some x → last_stamp x.history < entry.stamp
+above {O} {R} s c cells entry n x next named e = subst (λ (cell : Cell O R). last_stamp cell.history < entry.stamp) (get_or_from_slice_get s.cells n x (fresh_cell 0) e) (above_history s c cells entry n next named)
 
 -- a cell after a step by which those that are named were told
-told_if : (s : Turns) (c : ℕ) (entry : Entry) (x : Cell) (made : Cell → Cell) (named : Bool) → IsTold s c entry x x → (named ≡ true → IsTold s c entry x (made x)) → IsTold s c entry x (cond named (made x) x)
+told_if : {O R : Type 0} (s : Turns O R) (c : ℕ) (entry : Entry O R) (x : Cell O R) (made : Cell O R → Cell O R) (named : Bool) → IsTold s c entry x x → (named ≡ true → IsTold s c entry x (made x)) → IsTold s c entry x (cond named (made x) x)
 told_if s c entry x made true kept told = told refl
 told_if s c entry x made false kept told = kept
 
-pub keeps_draw : (s : Turns) (c : ℕ) (cells : List ℕ) (entry : Entry) → IsSound s → c < length s.callers → can_draw s c cells entry ≡ true → IsSound (drawn s c cells entry)
+pub keeps_draw : {O R : Type 0} (s : Turns O R) (c : ℕ) (cells : List ℕ) (entry : Entry O R) → IsSound s → c < length s.callers → can_draw s c cells entry ≡ true → IsSound (drawn s c cells entry)
 keeps_draw s c cells entry sound there can =
     let once : names_once cells ≡ true = grind (arith, can) in
     let next_is : is_next s c cells entry ≡ true = grind (arith, can) in
@@ -76,8 +76,8 @@ once_left (n ∷ cells) others once =
     let unnamed : names cells n ≡ false = names_front cells others n (not-true (names (cells ++ others) n) parts.0) in
     rw (unnamed, once_left cells others parts.1) refl
 
-pub keeps_hand : (s : Turns) (c : ℕ) (from onto : List ℕ) (entry : Entry) → IsSound s → c < length s.callers → can_hand s c from onto entry ≡ true → IsSound (handed s c from onto entry)
-keeps_hand s c from onto entry sound there can =
+pub keeps_hand : {O R : Type 0} (s : Turns O R) (c : ℕ) (from onto : List ℕ) (entry : Entry O R) → IsSound s → c < length s.callers → can_hand s c from onto entry ≡ true → IsSound (handed s c from onto entry)
+keeps_hand {O} {R} s c from onto entry sound there can =
     let once : names_once (from ++ onto) ≡ true = grind (arith, can) in
     let next_is : is_next s c (from ++ onto) entry ≡ true = grind (arith, can) in
     let next = next_parts s c (from ++ onto) entry next_is in
@@ -99,12 +99,12 @@ keeps_hand s c from onto entry sound there can =
       holders = λ n. same_holder cell_closed (λ x. refl) begun from n ∙ same_holder (cell_begun entry) begun_lock (with_mine s c entry) onto n;
     })
     each where
-      begun_lock : (x : Cell) → (cell_begun entry x).lock ≡ x.lock
+      begun_lock : (x : Cell O R) → (cell_begun entry x).lock ≡ x.lock
       begun_lock x = go x.closed where
         go : (closed : Bool) → (cond closed (cell_told entry (cell_opened x)) (cell_told entry x)).lock ≡ x.lock
         go true = refl
         go false = refl
 
-      closed_if : (s : Turns) (c : ℕ) (entry : Entry) (x y : Cell) (named : Bool) → IsTold s c entry x y → IsTold s c entry x (cond named (cell_closed y) y)
+      closed_if : (s : Turns O R) (c : ℕ) (entry : Entry O R) (x y : Cell O R) (named : Bool) → IsTold s c entry x y → IsTold s c entry x (cond named (cell_closed y) y)
       closed_if s c entry x y true told = record { lock = told.lock; home = told.home; histories = told.histories }
       closed_if s c entry x y false told = told

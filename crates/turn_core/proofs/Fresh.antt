@@ -7,7 +7,7 @@ use Rattle.turn_core.specs.State.{fresh, fresh_cell, fresh_caller, fresh_cells, 
 use Rattle.turn_core.specs.Sound.{IsHistory, IsCell, IsCaller, IsSound, entries_drawn}
 use Rattle.turn_core.proofs.Growing.{each_push}
 
-pub sound-fresh : (lives : List ℕ) (callers : ℕ) → IsSound (fresh lives callers)
+pub sound-fresh : {O R : Type 0} (lives : List ℕ) (callers : ℕ) → IsSound (fresh {O = O} {R = R} lives callers)
 sound-fresh lives callers = record {
   cells = EachPlace-map (IsCell (fresh_callers callers)) fresh_cell lives (λ n life e. record {
     histories = each_push (IsHistory (fresh_callers callers)) [] [] (λ i history f. cc) (record { rising = λ i j earlier later before at_i at_j. cc; drawn = λ i entry f. cc });
@@ -27,5 +27,5 @@ sound-fresh lives callers = record {
   });
 }
 
-pub IsSound-is_fresh : (s : Turns) (lives : List ℕ) (callers : ℕ) → s ≡ fresh lives callers → IsSound s
+pub IsSound-is_fresh : {O R : Type 0} (s : Turns O R) (lives : List ℕ) (callers : ℕ) → s ≡ fresh lives callers → IsSound s
 IsSound-is_fresh s lives callers is = subst IsSound (sym is) (sound-fresh lives callers)

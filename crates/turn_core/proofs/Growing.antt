@@ -15,44 +15,44 @@ use Rattle.turn_core.specs.Sound.{drawn_by, held_by, entries_drawn, StandsIn, Is
 use Rattle.turn_core.proofs.Rising.{rising-push, rising-one}
 
 -- the callers after this one drew the entry
-abbrev pub with_drawn : Turns → ℕ → Entry → List Caller
+abbrev pub with_drawn : {O R : Type 0} → Turns O R → ℕ → Entry O R → List (Caller O R)
 with_drawn s c entry = (change_caller (caller_drawn entry) s c).callers
 
-pub drawn_by-same : (s : Turns) (c : ℕ) (entry : Entry) → c < length s.callers → drawn_by (with_drawn s c entry) c ≡ drawn_by s.callers c ++ entry ∷ []
-drawn_by-same s c entry there = ap (λ (x : Caller). x.mine) (get_or-set_same s.callers c (caller_drawn entry (caller_at s c)) fresh_caller there)
+pub drawn_by-same : {O R : Type 0} (s : Turns O R) (c : ℕ) (entry : Entry O R) → c < length s.callers → drawn_by (with_drawn s c entry) c ≡ drawn_by s.callers c ++ entry ∷ []
+drawn_by-same {O} {R} s c entry there = ap (λ (x : Caller O R). x.mine) (get_or-set_same s.callers c (caller_drawn entry (caller_at s c)) fresh_caller there)
 
-pub drawn_by-other : (s : Turns) (c d : ℕ) (entry : Entry) → d ≢ c → drawn_by (with_drawn s c entry) d ≡ drawn_by s.callers d
-drawn_by-other s c d entry apart = ap (λ (x : Caller). x.mine) (get_or-set_other s.callers c d (caller_drawn entry (caller_at s c)) fresh_caller apart)
+pub drawn_by-other : {O R : Type 0} (s : Turns O R) (c d : ℕ) (entry : Entry O R) → d ≢ c → drawn_by (with_drawn s c entry) d ≡ drawn_by s.callers d
+drawn_by-other {O} {R} s c d entry apart = ap (λ (x : Caller O R). x.mine) (get_or-set_other s.callers c d (caller_drawn entry (caller_at s c)) fresh_caller apart)
 
-pub held_by-drawn : (s : Turns) (c d : ℕ) (entry : Entry) → c < length s.callers → held_by (with_drawn s c entry) d ≡ held_by s.callers d
-held_by-drawn s c d entry there = elim (eqb_tells d c) [
-  | inl same ↦ rw same.1 (ap (λ (x : Caller). x.held) (get_or-set_same s.callers c (caller_drawn entry (caller_at s c)) fresh_caller there))
-  | inr apart ↦ ap (λ (x : Caller). x.held) (get_or-set_other s.callers c d (caller_drawn entry (caller_at s c)) fresh_caller apart.1)
+pub held_by-drawn : {O R : Type 0} (s : Turns O R) (c d : ℕ) (entry : Entry O R) → c < length s.callers → held_by (with_drawn s c entry) d ≡ held_by s.callers d
+held_by-drawn {O} {R} s c d entry there = elim (eqb_tells d c) [
+  | inl same ↦ rw same.1 (ap (λ (x : Caller O R). x.held) (get_or-set_same s.callers c (caller_drawn entry (caller_at s c)) fresh_caller there))
+  | inr apart ↦ ap (λ (x : Caller O R). x.held) (get_or-set_other s.callers c d (caller_drawn entry (caller_at s c)) fresh_caller apart.1)
 ]
 
 -- what stood in its caller's list stands there still
-pub stands-drawn : (s : Turns) (c : ℕ) (entry other : Entry) → c < length s.callers → StandsIn s.callers other → StandsIn (with_drawn s c entry) other
-stands-drawn s c entry other there stands = elim (eqb_tells other.caller c) [
-  | inl same ↦ subst (λ (list : List Entry). slice_get list other.index ≡ Some other) (sym (ap (drawn_by (with_drawn s c entry)) same.1 ∙ drawn_by-same s c entry there)) (slice_get-append_left (drawn_by s.callers c) (entry ∷ []) other.index other (subst (λ d. slice_get (drawn_by s.callers d) other.index ≡ Some other) same.1 stands))
-  | inr apart ↦ subst (λ (list : List Entry). slice_get list other.index ≡ Some other) (sym (drawn_by-other s c other.caller entry apart.1)) stands
+pub stands-drawn : {O R : Type 0} (s : Turns O R) (c : ℕ) (entry other : Entry O R) → c < length s.callers → StandsIn s.callers other → StandsIn (with_drawn s c entry) other
+stands-drawn {O} {R} s c entry other there stands = elim (eqb_tells other.caller c) [
+  | inl same ↦ subst (λ (list : List (Entry O R)). slice_get list other.index ≡ Some other) (sym (ap (drawn_by (with_drawn s c entry)) same.1 ∙ drawn_by-same s c entry there)) (slice_get-append_left (drawn_by s.callers c) (entry ∷ []) other.index other (subst (λ d. slice_get (drawn_by s.callers d) other.index ≡ Some other) same.1 stands))
+  | inr apart ↦ subst (λ (list : List (Entry O R)). slice_get list other.index ≡ Some other) (sym (drawn_by-other s c other.caller entry apart.1)) stands
 ]
 
 -- the new entry stands in it
-pub new_stands : (s : Turns) (c : ℕ) (entry : Entry) → c < length s.callers → entry.caller ≡ c → entry.index ≡ length (drawn_by s.callers c) → StandsIn (with_drawn s c entry) entry
-new_stands s c entry there caller index =
+pub new_stands : {O R : Type 0} (s : Turns O R) (c : ℕ) (entry : Entry O R) → c < length s.callers → entry.caller ≡ c → entry.index ≡ length (drawn_by s.callers c) → StandsIn (with_drawn s c entry) entry
+new_stands {O} {R} s c entry there caller index =
     let placed : slice_get (drawn_by s.callers c ++ entry ∷ []) entry.index ≡ Some entry = subst (λ n. slice_get (drawn_by s.callers c ++ entry ∷ []) n ≡ Some entry) (sym index) (slice_get-append_seam (drawn_by s.callers c) entry []) in
-    let here : slice_get (drawn_by (with_drawn s c entry) c) entry.index ≡ Some entry = subst (λ (list : List Entry). slice_get list entry.index ≡ Some entry) (sym (drawn_by-same s c entry there)) placed in
+    let here : slice_get (drawn_by (with_drawn s c entry) c) entry.index ≡ Some entry = subst (λ (list : List (Entry O R)). slice_get list entry.index ≡ Some entry) (sym (drawn_by-same s c entry there)) placed in
     subst (λ d. slice_get (drawn_by (with_drawn s c entry) d) entry.index ≡ Some entry) (sym caller) here
 
-pub entries-drawn : (s : Turns) (c : ℕ) (entry : Entry) → c < length s.callers → entries_drawn (with_drawn s c entry) ≡ entries_drawn s.callers + 1
+pub entries-drawn : {O R : Type 0} (s : Turns O R) (c : ℕ) (entry : Entry O R) → c < length s.callers → entries_drawn (with_drawn s c entry) ≡ entries_drawn s.callers + 1
 entries-drawn s c entry there =
     omega (arith, sum_by-set (λ x. length x.mine) s.callers c (caller_drawn entry (caller_at s c)) fresh_caller there, length-append (caller_at s c).mine (entry ∷ []))
 
 -- a history is one still, and with the entry behind it too
-pub history-kept : (s : Turns) (c : ℕ) (entry : Entry) (history : List Entry) → c < length s.callers → IsHistory s.callers history → IsHistory (with_drawn s c entry) history
+pub history-kept : {O R : Type 0} (s : Turns O R) (c : ℕ) (entry : Entry O R) (history : List (Entry O R)) → c < length s.callers → IsHistory s.callers history → IsHistory (with_drawn s c entry) history
 history-kept s c entry history there old = record { rising = old.rising; drawn = λ i other e. stands-drawn s c entry other there (old.drawn i other e) }
 
-pub history-push : (s : Turns) (c : ℕ) (entry : Entry) (history : List Entry) → c < length s.callers → StandsIn (with_drawn s c entry) entry → last_stamp history < entry.stamp → IsHistory s.callers history → IsHistory (with_drawn s c entry) (history ++ entry ∷ [])
+pub history-push : {O R : Type 0} (s : Turns O R) (c : ℕ) (entry : Entry O R) (history : List (Entry O R)) → c < length s.callers → StandsIn (with_drawn s c entry) entry → last_stamp history < entry.stamp → IsHistory s.callers history → IsHistory (with_drawn s c entry) (history ++ entry ∷ [])
 history-push s c entry history there stands above old = record {
   rising = rising-push history entry old.rising above;
   drawn = λ i other e. elim (at_push history entry i other e) [
@@ -61,7 +61,7 @@ history-push s c entry history there stands above old = record {
   ];
 }
 
-pub history-one : (s : Turns) (c : ℕ) (entry : Entry) → StandsIn (with_drawn s c entry) entry → IsHistory (with_drawn s c entry) (entry ∷ [])
+pub history-one : {O R : Type 0} (s : Turns O R) (c : ℕ) (entry : Entry O R) → StandsIn (with_drawn s c entry) entry → IsHistory (with_drawn s c entry) (entry ∷ [])
 history-one s c entry stands = record {
   rising = rising-one entry;
   drawn = λ i other e. elim (at_push [] entry i other e) [

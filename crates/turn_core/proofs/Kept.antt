@@ -14,7 +14,7 @@ use Rattle.turn_core.proofs.Drawn.{keeps_alone, keeps_draw, keeps_hand}
 use Rattle.turn_core.proofs.Skipping.{keeps_skip}
 
 -- the event's caller and its cells are there
-pub record IsInRange (s : Turns) (event : TurnEvent) : Type 0 where
+pub record IsInRange {O R : Type 0} (s : Turns O R) (event : TurnEvent O R) : Type 0 where
   pub caller : caller_of event < length s.callers
   pub cells : All (λ n. n < length s.cells) (cells_of event)
 
@@ -22,10 +22,10 @@ held_is : (lock : Option ℕ) (c : ℕ) → is_caller lock c ≡ true → lock �
 held_is None c e = cc
 held_is (Some holder) c e = let same : holder ≡ c = grind (arith, nat_tests, e) in ap Some same
 
-first_there : (s : Turns) (n : ℕ) → All (λ m. m < length s.cells) (n ∷ []) → n < length s.cells
+first_there : {O R : Type 0} (s : Turns O R) (n : ℕ) → All (λ m. m < length s.cells) (n ∷ []) → n < length s.cells
 first_there s n all = all 0 0 (omega arith)
 
-pub keeps_effect : (s : Turns) (event : TurnEvent) → IsSound s → IsInRange s event → is_possible s event ≡ true → IsSound (effect s event)
+pub keeps_effect : {O R : Type 0} (s : Turns O R) (event : TurnEvent O R) → IsSound s → IsInRange s event → is_possible s event ≡ true → IsSound (effect s event)
 keeps_effect s (Lock c n) sound range possible = go (cell_at s n).lock refl where
   go : (lock : Option ℕ) → (cell_at s n).lock ≡ lock → IsSound (locked s c n lock)
   go None e = keeps_lock s c n sound range.caller (first_there s n range.cells) e

@@ -14,13 +14,13 @@ use Rattle.turn_core.specs.Runs.{happens, run}
 use Rattle.turn_core.proofs.Changed.{callers-change_cells}
 use Rattle.turn_core.proofs.Drawing.{next_parts, above_clock}
 
-later_next : (s : Turns) (c : ℕ) (cells : List ℕ) (entry : Entry) → is_next s c cells entry ≡ true → clock_of s c < entry.stamp
+later_next : {O R : Type 0} (s : Turns O R) (c : ℕ) (cells : List ℕ) (entry : Entry O R) → is_next s c cells entry ≡ true → clock_of s c < entry.stamp
 later_next s c cells entry next = above_clock s c cells entry (next_parts s c cells entry next)
 
-pub later_drawn : (s : Turns) (event : TurnEvent) (entry : Entry) → is_possible s event ≡ true → drawn_in event ≡ Some entry → clock_of s (caller_of event) < entry.stamp
-later_drawn s (Draw c cells drawn) entry possible is = subst (λ (e : Entry). clock_of s c < e.stamp) (same_Some drawn entry is) (later_next s c cells drawn (grind (arith, possible)))
-later_drawn s (Alone c drawn) entry possible is = subst (λ (e : Entry). clock_of s c < e.stamp) (same_Some drawn entry is) (later_next s c [] drawn possible)
-later_drawn s (Hand c from onto drawn) entry possible is = subst (λ (e : Entry). clock_of s c < e.stamp) (same_Some drawn entry is) (later_next s c (from ++ onto) drawn (grind (arith, possible)))
+pub later_drawn : {O R : Type 0} (s : Turns O R) (event : TurnEvent O R) (entry : Entry O R) → is_possible s event ≡ true → drawn_in event ≡ Some entry → clock_of s (caller_of event) < entry.stamp
+later_drawn {O} {R} s (Draw c cells drawn) entry possible is = subst (λ (e : Entry O R). clock_of s c < e.stamp) (same_Some drawn entry is) (later_next s c cells drawn (grind (arith, possible)))
+later_drawn {O} {R} s (Alone c drawn) entry possible is = subst (λ (e : Entry O R). clock_of s c < e.stamp) (same_Some drawn entry is) (later_next s c [] drawn possible)
+later_drawn {O} {R} s (Hand c from onto drawn) entry possible is = subst (λ (e : Entry O R). clock_of s c < e.stamp) (same_Some drawn entry is) (later_next s c (from ++ onto) drawn (grind (arith, possible)))
 later_drawn s (Lock c n) entry possible is = cc
 later_drawn s (Take c n) entry possible is = cc
 later_drawn s (Put c n) entry possible is = cc
@@ -28,13 +28,13 @@ later_drawn s (Unlock c n) entry possible is = cc
 later_drawn s (Skip c stamp) entry possible is = cc
 
 -- no clock falls as one caller changes whose clock does not
-clock-change : (changed : Caller → Caller) (s : Turns) (c d : ℕ) → clock_of s c ≤ (changed (caller_at s c)).clock → clock_of s d ≤ clock_of (change_caller changed s c) d
-clock-change changed s c d up = get_or-set_related (λ (x y : Caller). x.clock ≤ y.clock) (λ x. omega arith) s.callers c d (changed (caller_at s c)) fresh_caller up
+clock-change : {O R : Type 0} (changed : Caller O R → Caller O R) (s : Turns O R) (c d : ℕ) → clock_of s c ≤ (changed (caller_at s c)).clock → clock_of s d ≤ clock_of (change_caller changed s c) d
+clock-change {O} {R} changed s c d up = get_or-set_related (λ (x y : Caller O R). x.clock ≤ y.clock) (λ x. omega arith) s.callers c d (changed (caller_at s c)) fresh_caller up
 
-clock-cells : (changed : Cell → Cell) (s : Turns) (cells : List ℕ) (d : ℕ) → clock_of (change_cells changed s cells) d ≡ clock_of s d
+clock-cells : {O R : Type 0} (changed : Cell O R → Cell O R) (s : Turns O R) (cells : List ℕ) (d : ℕ) → clock_of (change_cells changed s cells) d ≡ clock_of s d
 clock-cells changed s cells d = ap (λ callers. (get_or callers d fresh_caller).clock) (callers-change_cells changed s cells)
 
-pub clock-effect : (s : Turns) (event : TurnEvent) (d : ℕ) → is_possible s event ≡ true → clock_of s d ≤ clock_of (effect s event) d
+pub clock-effect : {O R : Type 0} (s : Turns O R) (event : TurnEvent O R) (d : ℕ) → is_possible s event ≡ true → clock_of s d ≤ clock_of (effect s event) d
 clock-effect s (Lock c n) d possible = go (cell_at s n).lock where
   go : (lock : Option ℕ) → clock_of s d ≤ clock_of (locked s c n lock) d
   go None = clock-change (caller_locked n) (change_cell (cell_locked c) s n) c d (omega arith)
@@ -53,23 +53,23 @@ clock-effect s (Put c n) d possible = omega arith
 clock-effect s (Unlock c n) d possible = clock-change (caller_unlocked n) (change_cell cell_unlocked s n) c d (omega arith)
 clock-effect s (Skip c stamp) d possible = clock-change (caller_skipped stamp) s c d (omega arith)
 
-clock-happens : (s : Turns) (event : TurnEvent) (d : ℕ) → clock_of s d ≤ clock_of (happens s event) d
+clock-happens : {O R : Type 0} (s : Turns O R) (event : TurnEvent O R) (d : ℕ) → clock_of s d ≤ clock_of (happens s event) d
 clock-happens s event d = go (is_possible s event) refl where
   go : (possible : Bool) → is_possible s event ≡ possible → clock_of s d ≤ clock_of (cond possible (effect s event) s) d
   go true e = clock-effect s event d e
   go false e = omega arith
 
-pub clock-run : (events : List TurnEvent) (s : Turns) (d : ℕ) → clock_of s d ≤ clock_of (run events s) d
+pub clock-run : {O R : Type 0} (events : List (TurnEvent O R)) (s : Turns O R) (d : ℕ) → clock_of s d ≤ clock_of (run events s) d
 clock-run [] s d = omega arith
 clock-run (event ∷ events) s d = omega (arith, clock-happens s event d, clock-run events (happens s event) d)
 
 -- a skip raises the clock to its stamp
-pub clock-skipped : (s : Turns) (c stamp : ℕ) → c < length s.callers → stamp ≤ clock_of (effect s (Skip c stamp)) c
-clock-skipped s c stamp there =
-    let clock = ap (λ (x : Caller). x.clock) (get_or-set_same s.callers c (caller_skipped stamp (caller_at s c)) fresh_caller there) in
+pub clock-skipped : {O R : Type 0} (s : Turns O R) (c stamp : ℕ) → c < length s.callers → stamp ≤ clock_of (effect s (Skip c stamp)) c
+clock-skipped {O} {R} s c stamp there =
+    let clock = ap (λ (x : Caller O R). x.clock) (get_or-set_same s.callers c (caller_skipped stamp (caller_at s c)) fresh_caller there) in
     omega (arith, clock)
 
-pub later_skipped : (s : Turns) (c stamp : ℕ) (events : List TurnEvent) (event : TurnEvent) (entry : Entry) → c < length s.callers
+pub later_skipped : {O R : Type 0} (s : Turns O R) (c stamp : ℕ) (events : List (TurnEvent O R)) (event : TurnEvent O R) (entry : Entry O R) → c < length s.callers
     → is_possible s (Skip c stamp) ≡ true → is_possible (run events (happens s (Skip c stamp))) event ≡ true → caller_of event ≡ c → drawn_in event ≡ Some entry → stamp < entry.stamp
 later_skipped s c stamp events event entry there skipped possible own is =
     let raised = effect s (Skip c stamp) in

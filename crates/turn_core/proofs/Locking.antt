@@ -19,7 +19,7 @@ use Rattle.turn_core.specs.Sound.{drawn_by, held_by, holder_of, entries_drawn, h
 use Rattle.turn_core.proofs.Drawing.{same_holder}
 
 -- one cell changes, but for its lock and its histories
-pub keeps_moved : (changed : Cell → Cell) → ((x : Cell) → (changed x).lock ≡ x.lock) → ((x : Cell) → histories_of (changed x) ≡ histories_of x) → (s : Turns) (n : ℕ) → n < length s.cells → IsSound s → ((changed (cell_at s n)).home ≡ false → is_some (cell_at s n).lock ≡ true) → IsSound (change_cell changed s n)
+pub keeps_moved : {O R : Type 0} (changed : Cell O R → Cell O R) → ((x : Cell O R) → (changed x).lock ≡ x.lock) → ((x : Cell O R) → histories_of (changed x) ≡ histories_of x) → (s : Turns O R) (n : ℕ) → n < length s.cells → IsSound s → ((changed (cell_at s n)).home ≡ false → is_some (cell_at s n).lock ≡ true) → IsSound (change_cell changed s n)
 keeps_moved changed locks histories s n there sound away =
     let old = sound.cells n (cell_at s n) (slice_get-get_or s.cells n (fresh_cell 0) there) in
     record {
@@ -44,17 +44,17 @@ keeps_moved changed locks histories s n there sound away =
     }
 
 -- a caller changes in what it holds alone
-pub record SameDrawn (callers after : List Caller) : Type 0 where
+pub record SameDrawn {O R : Type 0} (callers after : List (Caller O R)) : Type 0 where
   pub drawn : (c : ℕ) → drawn_by after c ≡ drawn_by callers c
   pub many : length after ≡ length callers
   pub entries : entries_drawn after ≡ entries_drawn callers
 
-pub history-same : (callers after : List Caller) (history : List Entry) → SameDrawn callers after → IsHistory callers history → IsHistory after history
+pub history-same : {O R : Type 0} (callers after : List (Caller O R)) (history : List (Entry O R)) → SameDrawn callers after → IsHistory callers history → IsHistory after history
 history-same callers after history same is = record { rising = is.rising; drawn = λ i entry e. ap (λ list. slice_get list entry.index) (same.drawn entry.caller) ∙ is.drawn i entry e }
 
-pub same_drawn : (s : Turns) (c : ℕ) (changed : Caller → Caller) → c < length s.callers → ((x : Caller) → (changed x).mine ≡ x.mine) → SameDrawn s.callers (change_caller changed s c).callers
-same_drawn s c changed there mine = record {
-  drawn = λ d. sym (get_or-set_related (λ (x y : Caller). x.mine ≡ y.mine) (λ x. refl) s.callers c d (changed (caller_at s c)) fresh_caller (sym (mine (caller_at s c))));
+pub same_drawn : {O R : Type 0} (s : Turns O R) (c : ℕ) (changed : Caller O R → Caller O R) → c < length s.callers → ((x : Caller O R) → (changed x).mine ≡ x.mine) → SameDrawn s.callers (change_caller changed s c).callers
+same_drawn {O} {R} s c changed there mine = record {
+  drawn = λ d. sym (get_or-set_related (λ (x y : Caller O R). x.mine ≡ y.mine) (λ x. refl) s.callers c d (changed (caller_at s c)) fresh_caller (sym (mine (caller_at s c))));
   many = length-set s.callers c (changed (caller_at s c));
   entries = omega (arith, sum_by-set (λ x. length x.mine) s.callers c (changed (caller_at s c)) fresh_caller there, ap length (mine (caller_at s c)));
 }
@@ -143,30 +143,30 @@ once-without (k ∷ cells) n once = elim (eqb_tells k n) [
 -- A cell's lock changes with what one caller holds: all but the lists named are as before.
 
 -- the state after the caller locked the cell that it found free
-abbrev after_lock : Turns → ℕ → ℕ → Turns
+abbrev after_lock : {O R : Type 0} → Turns O R → ℕ → ℕ → Turns O R
 after_lock s c n = change_caller (caller_locked n) (change_cell (cell_locked c) s n) c
 
-holder-else : (changed : Cell → Cell) (s : Turns) (n m : ℕ) → m ≢ n → holder_of (change_cell changed s n).cells m ≡ holder_of s.cells m
-holder-else changed s n m apart = ap (λ (x : Cell). x.lock) (get_or-set_other s.cells n m (changed (cell_at s n)) (fresh_cell 0) apart)
+holder-else : {O R : Type 0} (changed : Cell O R → Cell O R) (s : Turns O R) (n m : ℕ) → m ≢ n → holder_of (change_cell changed s n).cells m ≡ holder_of s.cells m
+holder-else {O} {R} changed s n m apart = ap (λ (x : Cell O R). x.lock) (get_or-set_other s.cells n m (changed (cell_at s n)) (fresh_cell 0) apart)
 
-holder-here : (changed : Cell → Cell) (s : Turns) (n : ℕ) → n < length s.cells → holder_of (change_cell changed s n).cells n ≡ (changed (cell_at s n)).lock
-holder-here changed s n there = ap (λ (x : Cell). x.lock) (get_or-set_same s.cells n (changed (cell_at s n)) (fresh_cell 0) there)
+holder-here : {O R : Type 0} (changed : Cell O R → Cell O R) (s : Turns O R) (n : ℕ) → n < length s.cells → holder_of (change_cell changed s n).cells n ≡ (changed (cell_at s n)).lock
+holder-here {O} {R} changed s n there = ap (λ (x : Cell O R). x.lock) (get_or-set_same s.cells n (changed (cell_at s n)) (fresh_cell 0) there)
 
-held-same : (changed : Caller → Caller) (s : Turns) (c : ℕ) → c < length s.callers → held_by (change_caller changed s c).callers c ≡ (changed (caller_at s c)).held
-held-same changed s c there = ap (λ (x : Caller). x.held) (get_or-set_same s.callers c (changed (caller_at s c)) fresh_caller there)
+held-same : {O R : Type 0} (changed : Caller O R → Caller O R) (s : Turns O R) (c : ℕ) → c < length s.callers → held_by (change_caller changed s c).callers c ≡ (changed (caller_at s c)).held
+held-same {O} {R} changed s c there = ap (λ (x : Caller O R). x.held) (get_or-set_same s.callers c (changed (caller_at s c)) fresh_caller there)
 
-held-other : (changed : Caller → Caller) (s : Turns) (c d : ℕ) → d ≢ c → held_by (change_caller changed s c).callers d ≡ held_by s.callers d
-held-other changed s c d apart = ap (λ (x : Caller). x.held) (get_or-set_other s.callers c d (changed (caller_at s c)) fresh_caller apart)
+held-other : {O R : Type 0} (changed : Caller O R → Caller O R) (s : Turns O R) (c d : ℕ) → d ≢ c → held_by (change_caller changed s c).callers d ≡ held_by s.callers d
+held-other {O} {R} changed s c d apart = ap (λ (x : Caller O R). x.held) (get_or-set_other s.callers c d (changed (caller_at s c)) fresh_caller apart)
 
 -- the list of a holder still has a cell that is not the one that changed
-held-else : (changed : Caller → Caller) (s : Turns) (c d m : ℕ) → c < length s.callers → (names (held_by s.callers c) m ≡ true → names (changed (caller_at s c)).held m ≡ true) → names (held_by s.callers d) m ≡ true → names (held_by (change_caller changed s c).callers d) m ≡ true
+held-else : {O R : Type 0} (changed : Caller O R → Caller O R) (s : Turns O R) (c d m : ℕ) → c < length s.callers → (names (held_by s.callers c) m ≡ true → names (changed (caller_at s c)).held m ≡ true) → names (held_by s.callers d) m ≡ true → names (held_by (change_caller changed s c).callers d) m ≡ true
 held-else changed s c d m there keeps named = elim (eqb_tells d c) [
   | inl same ↦ subst (λ e. names (held_by (change_caller changed s c).callers e) m ≡ true) (sym same.1) (subst (λ held. names held m ≡ true) (sym (held-same changed s c there)) (keeps (subst (λ e. names (held_by s.callers e) m ≡ true) same.1 named)))
   | inr apart ↦ subst (λ held. names held m ≡ true) (sym (held-other changed s c d apart.1)) named
 ]
 
-pub keeps_lock : (s : Turns) (c n : ℕ) → IsSound s → c < length s.callers → n < length s.cells → (cell_at s n).lock ≡ None → IsSound (after_lock s c n)
-keeps_lock s c n sound c_there n_there free =
+pub keeps_lock : {O R : Type 0} (s : Turns O R) (c n : ℕ) → IsSound s → c < length s.callers → n < length s.cells → (cell_at s n).lock ≡ None → IsSound (after_lock s c n)
+keeps_lock {O} {R} s c n sound c_there n_there free =
     let same = same_drawn s c (caller_locked n) c_there (λ x. refl) in
     let old = sound.cells n (cell_at s n) (slice_get-get_or s.cells n (fresh_cell 0) n_there) in
     let unheld : names (held_by s.callers c) n ≡ false = unnamed (names (held_by s.callers c) n) refl in
@@ -189,7 +189,7 @@ keeps_lock s c n sound c_there n_there free =
           (locker (sound.callers c (caller_at s c) (slice_get-get_or s.callers c fresh_caller c_there)) unheld same.entries)
           (λ d x apart e kept. other kept (same.entries));
     } where
-      cells : List Cell
+      cells : List (Cell O R)
       cells = (change_cell (cell_locked c) s n).cells
 
       still : (d m : ℕ) → holder_of s.cells m ≡ Some d → holder_of cells m ≡ Some d
@@ -198,7 +198,7 @@ keeps_lock s c n sound c_there n_there free =
         | inr apart ↦ holder-else (cell_locked c) s n m apart.1 ∙ e
       ]
 
-      other : {d : ℕ} {x : Caller} {more : ℕ} → IsCaller s.cells (entries_drawn s.callers) d x → more ≡ entries_drawn s.callers → IsCaller cells more d x
+      other : {d : ℕ} {x : Caller O R} {more : ℕ} → IsCaller s.cells (entries_drawn s.callers) d x → more ≡ entries_drawn s.callers → IsCaller cells more d x
       other {d} kept same = record {
         rising = kept.rising;
         own = kept.own;
@@ -235,11 +235,11 @@ keeps_lock s c n sound c_there n_there free =
       unnamed false e = refl
 
 -- the state after the caller unlocked the cell
-abbrev after_unlock : Turns → ℕ → ℕ → Turns
+abbrev after_unlock : {O R : Type 0} → Turns O R → ℕ → ℕ → Turns O R
 after_unlock s c n = change_caller (caller_unlocked n) (change_cell cell_unlocked s n) c
 
-pub keeps_unlock : (s : Turns) (c n : ℕ) → IsSound s → c < length s.callers → n < length s.cells → (cell_at s n).lock ≡ Some c → (cell_at s n).home ≡ true → IsSound (after_unlock s c n)
-keeps_unlock s c n sound c_there n_there locked home =
+pub keeps_unlock : {O R : Type 0} (s : Turns O R) (c n : ℕ) → IsSound s → c < length s.callers → n < length s.cells → (cell_at s n).lock ≡ Some c → (cell_at s n).home ≡ true → IsSound (after_unlock s c n)
+keeps_unlock {O} {R} s c n sound c_there n_there locked home =
     let same = same_drawn s c (caller_unlocked n) c_there (λ x. refl) in
     let old = sound.cells n (cell_at s n) (slice_get-get_or s.cells n (fresh_cell 0) n_there) in
     let callers = (change_caller (caller_unlocked n) s c).callers in
@@ -261,14 +261,14 @@ keeps_unlock s c n sound c_there n_there locked home =
           (unlocker (sound.callers c (caller_at s c) (slice_get-get_or s.callers c fresh_caller c_there)) same.entries)
           (λ d x apart e kept. other apart kept same.entries);
     } where
-      cells : List Cell
+      cells : List (Cell O R)
       cells = (change_cell cell_unlocked s n).cells
 
       true_home : (b : Bool) → b ≡ true → b ≡ false → ⊥
       true_home true e f = cc
       true_home false e f = cc
 
-      other : {d : ℕ} {x : Caller} {more : ℕ} → d ≢ c → IsCaller s.cells (entries_drawn s.callers) d x → more ≡ entries_drawn s.callers → IsCaller cells more d x
+      other : {d : ℕ} {x : Caller O R} {more : ℕ} → d ≢ c → IsCaller s.cells (entries_drawn s.callers) d x → more ≡ entries_drawn s.callers → IsCaller cells more d x
       other {d} another kept same = record {
         rising = kept.rising;
         own = kept.own;

@@ -14,20 +14,20 @@ use Rattle.turn_core.specs.Sound.{held_by, entries_drawn, IsCaller, IsSound}
 use Rattle.turn_core.proofs.Locking.{same_drawn, history-same}
 
 -- where no clock is above a number, no known stamp is
-known-most : (most stamp : ℕ) (callers : List Caller) → EachPlace (λ c (x : Caller). x.clock ≤ most) callers → list_any (λ (x : Caller). nat_le stamp x.clock) callers ≡ true → stamp ≤ most
+known-most : {O R : Type 0} (most stamp : ℕ) (callers : List (Caller O R)) → EachPlace (λ c (x : Caller O R). x.clock ≤ most) callers → list_any (λ (x : Caller O R). nat_le stamp x.clock) callers ≡ true → stamp ≤ most
 known-most most stamp [] each known = cc
-known-most most stamp (x ∷ callers) each known = go (nat_le stamp x.clock) refl (λ further. known-most most stamp callers (λ c y at. each (suc c) y at) further) where
-  go : (first : Bool) → nat_le stamp x.clock ≡ first → (list_any (λ (y : Caller). nat_le stamp y.clock) callers ≡ true → stamp ≤ most) → stamp ≤ most
+known-most {O} {R} most stamp (x ∷ callers) each known = go (nat_le stamp x.clock) refl (λ further. known-most most stamp callers (λ c y at. each (suc c) y at) further) where
+  go : (first : Bool) → nat_le stamp x.clock ≡ first → (list_any (λ (y : Caller O R). nat_le stamp y.clock) callers ≡ true → stamp ≤ most) → stamp ≤ most
   go true e behind = let below : stamp ≤ x.clock = grind (arith, nat_tests, e) in omega (arith, below, each 0 x refl)
-  go false e behind = behind (ap (λ first. first || list_any (λ (y : Caller). nat_le stamp y.clock) callers) (sym e) ∙ known)
+  go false e behind = behind (ap (λ first. first || list_any (λ (y : Caller O R). nat_le stamp y.clock) callers) (sym e) ∙ known)
 
-pub known_bounded : (s : Turns) (stamp : ℕ) → IsSound s → is_known s stamp ≡ true → stamp ≤ entries_drawn s.callers
+pub known_bounded : {O R : Type 0} (s : Turns O R) (stamp : ℕ) → IsSound s → is_known s stamp ≡ true → stamp ≤ entries_drawn s.callers
 known_bounded s stamp sound known = known-most (entries_drawn s.callers) stamp s.callers (λ c x e. (sound.callers c x e).clock) known
 
-pub held_by-skipped : (s : Turns) (c stamp d : ℕ) → held_by (change_caller (caller_skipped stamp) s c).callers d ≡ held_by s.callers d
-held_by-skipped s c stamp d = sym (get_or-set_related (λ (x y : Caller). x.held ≡ y.held) (λ x. refl) s.callers c d (caller_skipped stamp (caller_at s c)) fresh_caller refl)
+pub held_by-skipped : {O R : Type 0} (s : Turns O R) (c stamp d : ℕ) → held_by (change_caller (caller_skipped stamp) s c).callers d ≡ held_by s.callers d
+held_by-skipped {O} {R} s c stamp d = sym (get_or-set_related (λ (x y : Caller O R). x.held ≡ y.held) (λ x. refl) s.callers c d (caller_skipped stamp (caller_at s c)) fresh_caller refl)
 
-pub keeps_skip : (s : Turns) (c stamp : ℕ) → IsSound s → c < length s.callers → is_known s stamp ≡ true → IsSound (change_caller (caller_skipped stamp) s c)
+pub keeps_skip : {O R : Type 0} (s : Turns O R) (c stamp : ℕ) → IsSound s → c < length s.callers → is_known s stamp ≡ true → IsSound (change_caller (caller_skipped stamp) s c)
 keeps_skip s c stamp sound there known =
     let callers = (change_caller (caller_skipped stamp) s c).callers in
     let same = same_drawn s c (caller_skipped stamp) there (λ x. refl) in

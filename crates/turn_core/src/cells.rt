@@ -4,7 +4,7 @@ ghost use Rattle.turn_core.specs.Events.{holds, holds_home, has_taken};
 
 use crate::state::TurnState;
 
-impl TurnState {
+impl<O: Copy + Drop, R: Copy + Drop> TurnState<O, R> {
     /// Whether the caller holds the cell.
     pub(crate) fn is_held(&self, c: u32, n: u32) -> bool
         requires { n < length self.now.cells }

@@ -9,9 +9,9 @@ use crate::state::TurnState;
 use k42_kinds::Entry;
 use k42_memory::Memory;
 
-impl TurnState {
+impl<O: Copy + Drop, R: Copy + Drop> TurnState<O, R> {
     /// The caller has drawn an entry, to whose stamp its clock is set. Want of memory leaves the state.
-    pub(crate) fn add_mine(&mut self, c: u32, entry: &Entry) -> Result<(), Memory>
+    pub(crate) fn add_mine(&mut self, c: u32, entry: &Entry<O, R>) -> Result<(), Memory>
         requires { c < length self.old.callers }
         ensures ok { OnOk result (self.new ≡ change_caller (caller_drawn entry.now) self.old c) }
         ensures memory { OnErr result (self.new ≡ self.old) }

@@ -13,7 +13,7 @@ use k42_kinds::Entry;
 use k42_memory::Memory;
 use std::alloc::Global;
 
-impl TurnState {
+impl<O: Copy + Drop, R: Copy + Drop> TurnState<O, R> {
     /// Closes each of the cells.
     pub(crate) fn close_all(&mut self, cells: &[u32])
         requires { All (λ n. n < length self.old.cells) cells.now }
@@ -80,7 +80,7 @@ impl TurnState {
 
     /// A new life of the cell begins with the entry. Want of memory leaves the state.
     #[tactic(auto, using(crate::proofs::Undone::reclosed, crate::proofs::Undone::begun))]
-    fn begin(&mut self, alloc: Global, n: u32, entry: &Entry) -> Result<(), Memory>
+    fn begin(&mut self, alloc: Global, n: u32, entry: &Entry<O, R>) -> Result<(), Memory>
         requires there { n < length self.old.cells }
         requires may_begin { IsTrue (may_begin (cell_at self.old n)) }
         ensures ok { OnOk result (self.new ≡ change_cell (cell_begun entry.now) self.old n) }
@@ -115,7 +115,7 @@ impl TurnState {
         &mut self,
         alloc: Global,
         cells: &[u32],
-        entry: &Entry,
+        entry: &Entry<O, R>,
     ) -> Result<(), Memory>
         requires there { All (λ n. n < length self.old.cells) cells.now }
         requires may_begin { IsTrue (list_all (λ n. may_begin (cell_at self.old n)) cells.now) }
@@ -144,7 +144,7 @@ impl TurnState {
         from: &[u32],
         onto: &[u32],
         named: &[u32],
-        entry: &Entry,
+        entry: &Entry<O, R>,
     ) -> bool
         requires caller { c < length self.now.callers }
         requires from { All (λ n. n < length self.now.cells) from.now }
@@ -167,7 +167,7 @@ impl TurnState {
         c: u32,
         from: &[u32],
         onto: &[u32],
-        entry: &Entry,
+        entry: &Entry<O, R>,
     ) -> Result<(), Memory>
         requires caller { c < length self.old.callers }
         requires from { All (λ n. n < length self.old.cells) from.now }

@@ -13,7 +13,11 @@ use k42_kinds::Entry;
 use k42_memory::Memory;
 use std::alloc::Global;
 
-fn lock(state: &mut TurnState, c: u32, n: u32) -> Result<bool, Memory>
+fn lock<O: Copy + Drop, R: Copy + Drop>(
+    state: &mut TurnState<O, R>,
+    c: u32,
+    n: u32,
+) -> Result<bool, Memory>
     requires caller { c < length state.old.callers }
     requires cell { n < length state.old.cells }
     ensures { Applies result state.old state.new (events.Lock c n) }
@@ -28,7 +32,7 @@ fn lock(state: &mut TurnState, c: u32, n: u32) -> Result<bool, Memory>
     }
 }
 
-fn take(state: &mut TurnState, c: u32, n: u32) -> bool
+fn take<O: Copy + Drop, R: Copy + Drop>(state: &mut TurnState<O, R>, c: u32, n: u32) -> bool
     requires cell { n < length state.old.cells }
     ensures { Applies (Ok result) state.old state.new (events.Take c n) }
 {
@@ -39,7 +43,7 @@ fn take(state: &mut TurnState, c: u32, n: u32) -> bool
     possible
 }
 
-fn put(state: &mut TurnState, c: u32, n: u32) -> bool
+fn put<O: Copy + Drop, R: Copy + Drop>(state: &mut TurnState<O, R>, c: u32, n: u32) -> bool
     requires cell { n < length state.old.cells }
     ensures { Applies (Ok result) state.old state.new (events.Put c n) }
 {
@@ -50,7 +54,7 @@ fn put(state: &mut TurnState, c: u32, n: u32) -> bool
     possible
 }
 
-fn unlock(state: &mut TurnState, c: u32, n: u32) -> bool
+fn unlock<O: Copy + Drop, R: Copy + Drop>(state: &mut TurnState<O, R>, c: u32, n: u32) -> bool
     requires caller { c < length state.old.callers }
     requires cell { n < length state.old.cells }
     ensures { Applies (Ok result) state.old state.new (events.Unlock c n) }
@@ -63,7 +67,7 @@ fn unlock(state: &mut TurnState, c: u32, n: u32) -> bool
     possible
 }
 
-fn skip(state: &mut TurnState, c: u32, stamp: u64) -> bool
+fn skip<O: Copy + Drop, R: Copy + Drop>(state: &mut TurnState<O, R>, c: u32, stamp: u64) -> bool
     requires caller { c < length state.old.callers }
     ensures { Applies (Ok result) state.old state.new (events.Skip c stamp) }
 {
@@ -74,7 +78,11 @@ fn skip(state: &mut TurnState, c: u32, stamp: u64) -> bool
     possible
 }
 
-fn alone(state: &mut TurnState, c: u32, entry: &Entry) -> Result<bool, Memory>
+fn alone<O: Copy + Drop, R: Copy + Drop>(
+    state: &mut TurnState<O, R>,
+    c: u32,
+    entry: &Entry<O, R>,
+) -> Result<bool, Memory>
     requires caller { c < length state.old.callers }
     ensures { Applies result state.old state.new (events.Alone c entry.now) }
 {
@@ -85,7 +93,12 @@ fn alone(state: &mut TurnState, c: u32, entry: &Entry) -> Result<bool, Memory>
     Ok(true)
 }
 
-fn draw(state: &mut TurnState, c: u32, cells: &[u32], entry: &Entry) -> Result<bool, Memory>
+fn draw<O: Copy + Drop, R: Copy + Drop>(
+    state: &mut TurnState<O, R>,
+    c: u32,
+    cells: &[u32],
+    entry: &Entry<O, R>,
+) -> Result<bool, Memory>
     requires caller { c < length state.old.callers }
     requires cells { All (λ n. n < length state.old.cells) cells.now }
     ensures { Applies result state.old state.new (events.Draw c cells.now entry.now) }
@@ -101,13 +114,13 @@ fn draw(state: &mut TurnState, c: u32, cells: &[u32], entry: &Entry) -> Result<b
     Ok(true)
 }
 
-fn hand(
+fn hand<O: Copy + Drop, R: Copy + Drop>(
     alloc: Global,
-    state: &mut TurnState,
+    state: &mut TurnState<O, R>,
     c: u32,
     from: &[u32],
     onto: &[u32],
-    entry: &Entry,
+    entry: &Entry<O, R>,
 ) -> Result<bool, Memory>
     requires caller { c < length state.old.callers }
     requires from { All (λ n. n < length state.old.cells) from.now }
@@ -122,7 +135,11 @@ fn hand(
     Ok(true)
 }
 
-fn step(alloc: Global, state: &mut TurnState, event: &TurnEvent) -> Result<bool, Memory>
+fn step<O: Copy + Drop, R: Copy + Drop>(
+    alloc: Global,
+    state: &mut TurnState<O, R>,
+    event: &TurnEvent<O, R>,
+) -> Result<bool, Memory>
     requires caller { caller_of event.now < length state.old.callers }
     requires cells { All (λ n. n < length state.old.cells) (cells_of event.now) }
     ensures { Applies result state.old state.new event.now }
@@ -142,7 +159,11 @@ fn step(alloc: Global, state: &mut TurnState, event: &TurnEvent) -> Result<bool,
 }
 
 /// One event. An event that is not possible answers false; want of memory leaves the state.
-pub fn apply(alloc: Global, state: &mut TurnState, event: &TurnEvent) -> Result<bool, Memory>
+pub fn apply<O: Copy + Drop, R: Copy + Drop>(
+    alloc: Global,
+    state: &mut TurnState<O, R>,
+    event: &TurnEvent<O, R>,
+) -> Result<bool, Memory>
     requires sound { IsSound state.old }
     requires caller { caller_of event.now < length state.old.callers }
     requires cells { All (λ n. n < length state.old.cells) (cells_of event.now) }

@@ -15,7 +15,7 @@ fn is_after(next: u64, last: u64) -> bool
 }
 
 /// The stamp of the last of these entries, 0 where there is none.
-pub(crate) fn last_stamp(entries: &[Entry]) -> u64
+pub(crate) fn last_stamp<O: Copy + Drop, R: Copy + Drop>(entries: &[Entry<O, R>]) -> u64
     ensures { result ≡ last_stamp entries.now }
 {
     match entries.last() {
@@ -24,7 +24,7 @@ pub(crate) fn last_stamp(entries: &[Entry]) -> u64
     }
 }
 
-impl TurnState {
+impl<O: Copy + Drop, R: Copy + Drop> TurnState<O, R> {
     /// The greatest last stamp of these cells' histories.
     fn last_stamp_at(&self, cells: &[u32]) -> u64
         requires { All (λ n. n < length self.now.cells) cells.now }
@@ -48,7 +48,7 @@ impl TurnState {
     }
 
     /// Whether the entry is the caller's next, with the stamp of a draw at these cells.
-    pub(crate) fn is_next(&self, c: u32, cells: &[u32], entry: &Entry) -> bool
+    pub(crate) fn is_next(&self, c: u32, cells: &[u32], entry: &Entry<O, R>) -> bool
         requires caller { c < length self.now.callers }
         requires cells { All (λ n. n < length self.now.cells) cells.now }
         ensures { result ≡ is_next self.now c cells.now entry.now }

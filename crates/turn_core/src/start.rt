@@ -8,7 +8,10 @@ use k42_memory::Memory;
 use std::alloc::Global;
 
 /// A cell of each of these lives, which nobody has used.
-fn fresh_cells(alloc: Global, lives: &[u32]) -> Result<Vec<TurnCell>, Memory>
+fn fresh_cells<O: Copy + Drop, R: Copy + Drop>(
+    alloc: Global,
+    lives: &[u32],
+) -> Result<Vec<TurnCell<O, R>>, Memory>
     ensures { IfOk result (λ cells. cells.items ≡ fresh_cells lives.now) }
 {
     let mut cells = Vec::with_capacity(alloc, lives.len())?;
@@ -26,7 +29,10 @@ fn fresh_cells(alloc: Global, lives: &[u32]) -> Result<Vec<TurnCell>, Memory>
 }
 
 /// So many callers that hold nothing and have drawn nothing.
-fn fresh_callers(alloc: Global, callers: u32) -> Result<Vec<TurnCaller>, Memory>
+fn fresh_callers<O: Copy + Drop, R: Copy + Drop>(
+    alloc: Global,
+    callers: u32,
+) -> Result<Vec<TurnCaller<O, R>>, Memory>
     ensures { IfOk result (λ list. list.items ≡ fresh_callers callers) }
 {
     let mut list = Vec::with_capacity(alloc, callers as usize)?;
@@ -40,14 +46,14 @@ fn fresh_callers(alloc: Global, callers: u32) -> Result<Vec<TurnCaller>, Memory>
     Ok(list)
 }
 
-impl TurnState {
+impl<O: Copy + Drop, R: Copy + Drop> TurnState<O, R> {
     /// A state in which no cell was used. The cells are given by their lives.
     pub fn new(
         alloc: Global,
         cells: u32,
         callers: u32,
         lives: Vec<u32>,
-    ) -> Result<TurnState, Memory>
+    ) -> Result<TurnState<O, R>, Memory>
         requires { IsPlan cells callers lives.items }
         ensures new { IfOk result (λ s. s ≡ fresh lives.items callers) }
         ensures sound { IfOk result IsSound }

@@ -10,7 +10,7 @@ use std::marker::Model;
 
 /// One cell: a place for a representative, with its lock and what was drawn at it.
 #[derive(Debug, Drop)]
-pub struct TurnCell {
+pub struct TurnCell<O, R> {
     /// The caller that holds it.
     pub lock: Option<u32>,
     /// Whether it is in its place; a caller that holds it may have taken it out.
@@ -20,15 +20,15 @@ pub struct TurnCell {
     /// The incarnation whose row it is of.
     pub life: u32,
     /// What was drawn at it in this life.
-    pub history: Vec<Entry>,
+    pub history: Vec<Entry<O, R>>,
     /// What was drawn at it in its earlier lives, the oldest first.
-    pub past: Vec<Items<Entry>>,
+    pub past: Vec<Items<Entry<O, R>>>,
 }
 
-impl Model for TurnCell {
+impl<O, R> Model for TurnCell<O, R> {
     ghost use Rattle.turn_core.specs.Plain.{Cell};
 
-    ghost Value = { Cell };
+    ghost Value = { Cell O R };
 
     ghost view = { λ x. record {
       lock = x.lock;
@@ -42,47 +42,47 @@ impl Model for TurnCell {
 
 /// One caller.
 #[derive(Debug, Drop)]
-pub struct TurnCaller {
+pub struct TurnCaller<O, R> {
     /// The cells that it holds, in the order in which it locked them.
     pub held: Vec<u32>,
     /// Its entries, the oldest first.
-    pub mine: Vec<Entry>,
+    pub mine: Vec<Entry<O, R>>,
     /// Its clock, at least the stamp of its last entry; what it draws next bears a greater stamp.
     pub clock: u64,
 }
 
-impl Model for TurnCaller {
+impl<O, R> Model for TurnCaller<O, R> {
     ghost use Rattle.turn_core.specs.Plain.{Caller};
 
-    ghost Value = { Caller };
+    ghost Value = { Caller O R };
 
     ghost view = { λ x. record { held = x.held.items; mine = x.mine.items; clock = x.clock } };
 }
 
 /// Cells and callers, each named by its place.
 #[derive(Debug, Drop)]
-pub struct TurnState {
-    pub cells: Vec<TurnCell>,
-    pub callers: Vec<TurnCaller>,
+pub struct TurnState<O, R> {
+    pub cells: Vec<TurnCell<O, R>>,
+    pub callers: Vec<TurnCaller<O, R>>,
 }
 
-impl Model for TurnState {
+impl<O, R> Model for TurnState<O, R> {
     ghost use Rattle.turn_core.specs.Plain.{Turns};
 
-    ghost Value = { Turns };
+    ghost Value = { Turns O R };
 
     ghost view = { λ s. record { cells = s.cells.items; callers = s.callers.items } };
 }
 
-impl TurnState {
-    pub(crate) fn cell(&self, n: u32) -> &TurnCell
+impl<O: Copy + Drop, R: Copy + Drop> TurnState<O, R> {
+    pub(crate) fn cell(&self, n: u32) -> &TurnCell<O, R>
         requires { n < length self.now.cells }
         ensures { result.now ≡ cell_at self.now n }
     {
         &self.cells[n as usize]
     }
 
-    pub(crate) fn caller(&self, c: u32) -> &TurnCaller
+    pub(crate) fn caller(&self, c: u32) -> &TurnCaller<O, R>
         requires { c < length self.now.callers }
         ensures { result.now ≡ caller_at self.now c }
     {

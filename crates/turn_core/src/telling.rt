@@ -8,9 +8,9 @@ use crate::state::TurnState;
 use k42_kinds::Entry;
 use k42_memory::Memory;
 
-impl TurnState {
+impl<O: Copy + Drop, R: Copy + Drop> TurnState<O, R> {
     /// Tells a cell of an entry. Want of memory leaves the state.
-    pub(crate) fn tell(&mut self, n: u32, entry: &Entry) -> Result<(), Memory>
+    pub(crate) fn tell(&mut self, n: u32, entry: &Entry<O, R>) -> Result<(), Memory>
         requires { n < length self.old.cells }
         ensures ok { OnOk result (self.new ≡ change_cell (cell_told entry.now) self.old n) }
         ensures memory { OnErr result (self.new ≡ self.old) }
@@ -31,7 +31,7 @@ impl TurnState {
 
     #[tactic(auto, using(crate::proofs::Undone::untold))]
     /// Tells each of the cells of an entry. Want of memory leaves the state.
-    pub(crate) fn tell_all(&mut self, cells: &[u32], entry: &Entry) -> Result<(), Memory>
+    pub(crate) fn tell_all(&mut self, cells: &[u32], entry: &Entry<O, R>) -> Result<(), Memory>
         requires { All (λ n. n < length self.old.cells) cells.now }
         ensures ok { OnOk result (self.new ≡ change_cells (cell_told entry.now) self.old cells.now) }
         ensures memory { OnErr result (self.new ≡ self.old) }
@@ -49,7 +49,12 @@ impl TurnState {
 
     #[tactic(auto, using(crate::proofs::Undone::undrawn))]
     /// The caller draws an entry at the cells. Want of memory leaves the state.
-    pub(crate) fn draw_at(&mut self, c: u32, cells: &[u32], entry: &Entry) -> Result<(), Memory>
+    pub(crate) fn draw_at(
+        &mut self,
+        c: u32,
+        cells: &[u32],
+        entry: &Entry<O, R>,
+    ) -> Result<(), Memory>
         requires caller { c < length self.old.callers }
         requires cells { All (λ n. n < length self.old.cells) cells.now }
         ensures ok { OnOk result (self.new ≡ drawn self.old c cells.now entry.now) }

@@ -10,6 +10,8 @@ use Rattle.k42_board.specs.Taking.{MayLock}
 use Rattle.k42_board.specs.declared.view.Inside.{Inside}
 use Rattle.k42_board.specs.declared.view.PassView.{PassView}
 use Rattle.k42_runtime.specs.Systems.{SystemPart}
+use Rattle.k42_kinds.specs.declared.operation.Op.{Op}
+use Rattle.k42_kinds.specs.declared.operation.Reply.{Reply}
 
 served_inside : (place : Place) → is_served place ≡ true → IsInside place (object_of place) (row_of place)
 served_inside (Direct o i) e = (refl, refl)
@@ -20,7 +22,7 @@ served_inside (AtMediator o) e = absurd (cc)
 served_inside (Blocked o) e = absurd (cc)
 
 -- a pass that holds no cell may lock it
-pub may_lock_first : (procs n : ℕ) (v : PassView SystemPart) (inside : Inside) → v.turn.proc < procs → is_served v.visitor.place ≡ true → v.taker.held ≡ []
+pub may_lock_first : (procs n : ℕ) (v : PassView SystemPart Op Reply) (inside : Inside) → v.turn.proc < procs → is_served v.visitor.place ≡ true → v.taker.held ≡ []
     → inside ≡ inside_in v → inside.object < 16 → n ≡ (inside.object * 2 + inside.incarnation % 2) * 8 → MayLock procs n v
 may_lock_first procs n v inside home served held is few e = record {
   cell = omega (arith, few, e);

@@ -14,7 +14,7 @@ mod table;
 mod together;
 
 /// Whether the entries have just these answers, in this order.
-fn are_answered(entries: &[Entry], due: &[Answer]) -> bool {
+fn are_answered(entries: &[Entry<Op, Reply>], due: &[Answer<Reply>]) -> bool {
     if entries.len() != due.len() {
         return false;
     }

@@ -4,7 +4,7 @@ ghost use Rattle.script_text.specs.Lawful.{IsLawful};
 ghost use Rattle.script_text.specs.Sound.{IsSound};
 
 use crossbeam_utils::Backoff;
-use k42_kinds::{Answer, Entry, Reply};
+use k42_kinds::{Answer, Entry, Op, Reply};
 use k42_workers::{FreeGate, Gate, Summary, run_script, summary};
 use script_text::{ParseEnd, Script, generate, parse};
 use std::alloc::Global;
@@ -38,7 +38,7 @@ fn run<R: Threads + Abort + Wait + Sync, G: Gate + Sync>(
     alloc: Global,
     script: &Script,
     gate: &G,
-) -> Vec<Entry>
+) -> Vec<Entry<Op, Reply>>
     requires { IsSound script.now }
     ensures { IsLawful script.now result.items }
 {
@@ -296,7 +296,7 @@ impl Gate for Holding {
 }
 
 /// What the second worker was answered by its line of this place.
-fn got(entries: &[Entry], place: u64) -> Option<Answer> {
+fn got(entries: &[Entry<Op, Reply>], place: u64) -> Option<Answer<Reply>> {
     for entry in entries {
         if entry.caller == 1 && entry.index == place {
             return Some(entry.answer);

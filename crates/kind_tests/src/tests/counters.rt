@@ -5,7 +5,7 @@ ghost use Rattle.k42_kinds.specs.declared.operation.Op.{Op};
 ghost use Rattle.k42_kinds.specs.Objects.{counter_object};
 
 use co_counter::{SharedCounter, SpreadCounter};
-use k42_kinds::{Layout, Op, Reach, Reply, empty_row, step_row};
+use k42_kinds::{Kind, Layout, Op, Reach, Reply, empty_row, step_row};
 use k42_memory::Memory;
 use std::alloc::Global;
 use std::process::Abort;
@@ -13,7 +13,12 @@ use std::test::Fail;
 
 /// Adds from the first and from the last processor, drains the counter from the last one, and reads
 /// it from the first.
-fn follow<L: Layout>(rt: &impl Abort, alloc: Global, layout: &L, procs: u32) -> Result<(), Memory>
+fn follow<L: Layout + Kind<Op = Op, Reply = Reply>>(
+    rt: &impl Abort,
+    alloc: Global,
+    layout: &L,
+    procs: u32,
+) -> Result<(), Memory>
     requires known { (L.tag_of layout.now ≤ 2) × (0 < procs) × (procs ≤ PROCESSORS) }
     requires takes { (op : Op) → IsTrue (counter_object.takes op) → IsTrue ((L.object layout.now).takes op) }
 {

@@ -12,7 +12,7 @@ use std::process::Abort;
 use std::test::Fail;
 
 /// Binds, finds and unbinds one name, from the last and from the first processor in turn.
-fn follow<L: Layout>(
+fn follow<L: Layout + Kind<Op = Op, Reply = Reply>>(
     rt: &impl Abort,
     alloc: Global,
     layout: &L,

@@ -1,5 +1,5 @@
 //! Names and texts, entries, and in which order the maps of one thread show what they hold.
-use k42_kinds::{Act, Answer, DirectoryState, Entry, Name, Page, PagesState, Text, To};
+use k42_kinds::{Act, Answer, DirectoryState, Entry, Name, Op, Page, PagesState, Reply, Text, To};
 use std::test::Fail;
 
 mod layouts;
@@ -50,11 +50,11 @@ fn a_text_has_1_to_32_visible_bytes(rt: HostRuntime) {
 }
 
 // All entries are kept until a system is closed.
-const _: () = prove!(size_of::<Entry>() == 144);
+const _: () = prove!(size_of::<Entry<Op, Reply>>() == 144);
 
 #[test]
 fn an_entry_stands_behind_the_others(rt: HostRuntime) -> Result<(), Fail> {
-    let mut entries = Vec::new(rt.alloc());
+    let mut entries: Vec<Entry<Op, Reply>> = Vec::new(rt.alloc());
     for stamp in [1, 2, 3] {
         let entry = Entry {
             stamp,

@@ -10,7 +10,11 @@ use std::alloc::Global;
 use std::test::Fail;
 
 /// A caller's entries: of each its stamp, its object and its cell. They rise, or none are made.
-fn list_of(alloc: Global, caller: u32, entries: &[(u64, u32, u32)]) -> Result<Vec<Entry>, Memory>
+fn list_of(
+    alloc: Global,
+    caller: u32,
+    entries: &[(u64, u32, u32)],
+) -> Result<Vec<Entry<Op, Reply>>, Memory>
     ensures { IfOk result (λ list. IsListOf caller list.items) }
 {
     let mut list = Vec::new(alloc);
@@ -38,7 +42,10 @@ fn list_of(alloc: Global, caller: u32, entries: &[(u64, u32, u32)]) -> Result<Ve
 }
 
 /// The lists of four callers.
-fn lists_of(alloc: Global, callers: &[&[(u64, u32, u32)]; 4]) -> Result<Vec<Vec<Entry>>, Memory>
+fn lists_of(
+    alloc: Global,
+    callers: &[&[(u64, u32, u32)]; 4],
+) -> Result<Vec<Vec<Entry<Op, Reply>>>, Memory>
     ensures { IfOk result (λ lists. AreLists (map vec_items lists.items)) }
 {
     let mut lists = Vec::new(alloc);
@@ -103,7 +110,7 @@ fn more_than_1048576_entries_are_merged(rt: HostRuntime) -> Result<(), Fail> {
 }
 
 /// How many entries the lists have.
-fn total_of(lists: &[Vec<Entry>]) -> Option<usize>
+fn total_of(lists: &[Vec<Entry<Op, Reply>>]) -> Option<usize>
     ensures { IfSome result (λ total. total ≡ entries_in (map vec_items lists.now)) }
 {
     let Some((list, others)) = lists.split_first() else {
@@ -126,7 +133,7 @@ fn a_section_is_numbered_from_its_first_number(rt: HostRuntime) -> Result<(), Fa
 }
 
 /// Whether no list has entries.
-fn are_empty(lists: &[Vec<Entry>]) -> bool
+fn are_empty(lists: &[Vec<Entry<Op, Reply>>]) -> bool
     ensures { result ≡ true → AreEmpty (map vec_items lists.now) }
 {
     let Some((list, others)) = lists.split_first() else {
@@ -136,7 +143,7 @@ fn are_empty(lists: &[Vec<Entry>]) -> bool
 }
 
 /// The place of the list that alone has entries.
-fn only_place(lists: &[Vec<Entry>]) -> Option<usize>
+fn only_place(lists: &[Vec<Entry<Op, Reply>>]) -> Option<usize>
     ensures { IfSome result (λ place. IsAlone (map vec_items lists.now) place) }
 {
     let (list, others) = lists.split_first()?;

@@ -12,7 +12,7 @@ use std::process::Abort;
 use std::test::Fail;
 
 /// Reads a page, writes it and reads it again; then counts what is dirty before and after a clean.
-fn follow<L: Layout>(
+fn follow<L: Layout + Kind<Op = Op, Reply = Reply>>(
     rt: &impl Abort,
     alloc: Global,
     layout: &L,

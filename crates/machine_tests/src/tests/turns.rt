@@ -27,7 +27,7 @@ enum Asked {
     Skip(u32, u64),
 }
 
-fn entry_of(drawn: &Drawn) -> Entry {
+fn entry_of(drawn: &Drawn) -> Entry<Op, Reply> {
     Entry {
         stamp: drawn.0,
         caller: drawn.1,
@@ -42,7 +42,7 @@ fn entry_of(drawn: &Drawn) -> Entry {
     }
 }
 
-fn event_of(alloc: Global, asked: &Asked) -> Result<TurnEvent, Fail> {
+fn event_of(alloc: Global, asked: &Asked) -> Result<TurnEvent<Op, Reply>, Fail> {
     Ok(match asked {
         Asked::Lock(c, n) => TurnEvent::Lock(*c, *n),
         Asked::Take(c, n) => TurnEvent::Take(*c, *n),
@@ -70,7 +70,7 @@ fn are_there(cells: &[u32], many: usize) -> bool
 }
 
 /// Whether the event's caller and its cells are among so many.
-fn is_in_range(event: &TurnEvent, cells: usize, callers: usize) -> bool
+fn is_in_range(event: &TurnEvent<Op, Reply>, cells: usize, callers: usize) -> bool
     ensures caller { OnTrue result (caller_of event.now < callers) }
     ensures cells { OnTrue result (All (λ n. n < cells) (cells_of event.now)) }
 {
@@ -91,7 +91,11 @@ fn is_in_range(event: &TurnEvent, cells: usize, callers: usize) -> bool
 }
 
 /// Whether the event was possible.
-fn happens(alloc: Global, state: &mut TurnState, event: &TurnEvent) -> Result<bool, Fail>
+fn happens(
+    alloc: Global,
+    state: &mut TurnState<Op, Reply>,
+    event: &TurnEvent<Op, Reply>,
+) -> Result<bool, Fail>
     requires { IsSound state.old }
     ensures { IsSound state.new }
 {
@@ -102,7 +106,11 @@ fn happens(alloc: Global, state: &mut TurnState, event: &TurnEvent) -> Result<bo
 }
 
 /// How many of the events come out otherwise than they should.
-fn astray(alloc: Global, state: &mut TurnState, events: &[(Asked, bool)]) -> Result<u32, Fail>
+fn astray(
+    alloc: Global,
+    state: &mut TurnState<Op, Reply>,
+    events: &[(Asked, bool)],
+) -> Result<u32, Fail>
     requires { IsSound state.old }
 {
     let mut astray: u32 = 0;

@@ -33,6 +33,10 @@ impl Balky {
 impl Kind for Balky {
     type State = AnyState;
 
+    type Op = Op;
+
+    type Reply = Reply;
+
     ghost object = { λ _. plain_object kinds.Counter };
 
     fn empty(&self, alloc: Global) -> AnyState {
@@ -103,7 +107,7 @@ impl Layout for Balky {
         self.counter().admit(state)
     }
 
-    fn act(&self) -> Act {
+    fn act(&self) -> Act<Op> {
         self.counter().act()
     }
 

@@ -31,7 +31,11 @@ pub(super) fn start<L: Layout>(
 }
 
 /// What the pass has drawn so far.
-pub(super) fn drawn<L: Layout>(rt: &impl Abort, alloc: Global, pass: &Pass<L>) -> Vec<Entry> {
+pub(super) fn drawn<L: Layout>(
+    rt: &impl Abort,
+    alloc: Global,
+    pass: &Pass<L>,
+) -> Vec<Entry<L::Op, L::Reply>> {
     pass.log().unread().collect(alloc).expect(rt, "memory")
 }
 
@@ -42,7 +46,7 @@ pub(super) fn finish<L: Layout>(
     sys: Sys<L>,
     zero: Pass<L>,
     one: Pass<L>,
-) -> Vec<Vec<Entry>>
+) -> Vec<Vec<Entry<L::Op, L::Reply>>>
     requires callers { length sys.callers ≡ 2 }
     requires free { HoldsNoCell sys zero × HoldsNoCell sys one }
 {

@@ -11,7 +11,7 @@ use crate::tests::calls::{end, end_activity, fill, hold, let_go, look_in_vain, s
 use crate::tests::crews::{finish, start};
 use crate::tests::phases::swap;
 use co_any::AnyLayout;
-use k42_kinds::{Act, Answer, Entry, KindName, Layout, LayoutName, To};
+use k42_kinds::{Act, Answer, Entry, KindName, Layout, LayoutName, Op, Reply, To};
 use k42_limits::PASS_ENTRIES;
 use k42_mediator::{Begun, Marked, begin, mark};
 use k42_rule::{Pass, Sys};
@@ -95,7 +95,7 @@ fn draw(rt: &impl Abort, sys: &Sys<AnyLayout>, pass: &mut Pass<AnyLayout>)
 }
 
 /// The entry of a destroy by a caller that had drawn none.
-fn destroyed(caller: u32, stamp: u64, incarnation: u32, answer: Answer) -> Entry {
+fn destroyed(caller: u32, stamp: u64, incarnation: u32, answer: Answer<Reply>) -> Entry<Op, Reply> {
     Entry {
         stamp,
         caller,

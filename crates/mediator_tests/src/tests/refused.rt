@@ -81,7 +81,7 @@ fn go_on(rt: &impl Abort, alloc: Global, sys: &Sys<Balky>, pass: &mut Pass<Balky
 }
 
 /// The entry of a swap by the second caller.
-fn swapped(stamp: u64, index: u64, cell: u32, answer: Answer) -> Entry {
+fn swapped(stamp: u64, index: u64, cell: u32, answer: Answer<Reply>) -> Entry<Op, Reply> {
     Entry {
         stamp,
         caller: 1,
@@ -97,7 +97,7 @@ fn swapped(stamp: u64, index: u64, cell: u32, answer: Answer) -> Entry {
 }
 
 /// The entry of a call by the first caller, in the first row.
-fn called(stamp: u64, index: u64, op: Op, reply: Reply) -> Entry {
+fn called(stamp: u64, index: u64, op: Op, reply: Reply) -> Entry<Op, Reply> {
     Entry {
         stamp,
         caller: 0,

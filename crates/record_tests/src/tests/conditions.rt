@@ -6,7 +6,7 @@ ghost use Rattle.record_text.specs.Histories.{HasLine};
 ghost use Rattle.record_text.specs.Printer.LineNumbers.{HasNumber};
 
 use k42_items::Items;
-use k42_kinds::{Act, Answer, Entry, KindName, Op, is_seen, kind_of};
+use k42_kinds::{Act, Answer, Entry, KindName, Op, Reply, is_seen, kind_of};
 use k42_limits::PAGES;
 use record_text::{Record, RecordLine, numbers_of_all};
 use script_text::Script;
@@ -22,7 +22,7 @@ fn names_page(op: &Op) -> bool
     }
 }
 
-fn is_act_on(kind: KindName, act: &Act) -> bool
+fn is_act_on(kind: KindName, act: &Act<Op>) -> bool
     ensures { IsTrue result → IsActOn kind act.now }
 {
     match act {
@@ -31,7 +31,7 @@ fn is_act_on(kind: KindName, act: &Act) -> bool
     }
 }
 
-fn ends(act: &Act, answer: &Answer) -> bool
+fn ends(act: &Act<Op>, answer: &Answer<Reply>) -> bool
     ensures { IsTrue result → Ends act.now answer.now }
 {
     match act {
@@ -56,7 +56,7 @@ fn has_spelling(script: &Script, line: &RecordLine) -> bool
     }
 }
 
-fn has_generation(act: &Act, generation: Option<u32>) -> bool
+fn has_generation(act: &Act<Op>, generation: Option<u32>) -> bool
     ensures { IsTrue result → HasGeneration act.now generation }
 {
     match act {
@@ -112,7 +112,7 @@ pub fn has_text(script: &Script, written: &Record) -> bool
         && all_of_version(written.version, lines)
 }
 
-fn has_number(numbers: &Items<Items<u32>>, entry: &Entry) -> bool
+fn has_number(numbers: &Items<Items<u32>>, entry: &Entry<Op, Reply>) -> bool
     ensures { IsTrue result → HasNumber numbers.now entry.now.caller entry.now.index }
 {
     match numbers.as_slice().get(entry.caller as usize) {
@@ -122,7 +122,12 @@ fn has_number(numbers: &Items<Items<u32>>, entry: &Entry) -> bool
 }
 
 /// Whether each entry answers a line of the script.
-pub fn has_lines(rt: &impl Abort, alloc: Global, script: &Script, entries: &[Entry]) -> bool
+pub fn has_lines(
+    rt: &impl Abort,
+    alloc: Global,
+    script: &Script,
+    entries: &[Entry<Op, Reply>],
+) -> bool
     ensures { IsTrue result → All (HasLine script.now) entries.now }
 {
     let Ok(numbers) = numbers_of_all(alloc, script) else {

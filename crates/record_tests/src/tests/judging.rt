@@ -9,13 +9,13 @@ use script_text::{CallLine, Item, ObjectLine, Script, WorkerLines};
 use std::alloc::Global;
 use std::process::Abort;
 
-const GET: Act = Act::Call(Op::Get);
+const GET: Act<Op> = Act::Call(Op::Get);
 
 /// A line of a record: its stamp, worker, number in the script, act, answer and incarnation.
-type Said = (u64, u32, u32, Act, Answer, u32);
+type Said = (u64, u32, u32, Act<Op>, Answer<Reply>, u32);
 
 /// A line of a script: its worker, its number and its act.
-type Asked = (u32, u32, Act);
+type Asked = (u32, u32, Act<Op>);
 
 /// What is due: nothing, or a line and a rule.
 pub type Due = Option<(u32, u32)>;
@@ -134,7 +134,7 @@ fn expect(
     assert!(rt; found == due, "{}", shows);
 }
 
-const SPREAD: Act = Act::Swap(To::Layout(LayoutName::Spread));
+const SPREAD: Act<Op> = Act::Swap(To::Layout(LayoutName::Spread));
 
 const THREE: [Asked; 3] = [(0, 4, Act::Call(Op::Add(5))), (0, 5, SPREAD), (0, 6, GET)];
 

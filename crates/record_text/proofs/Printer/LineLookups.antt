@@ -1,6 +1,8 @@
 -- The numbers of the lines that ask something, looked up by worker and place.
 use Rattle.std.proofs.Common.{◌≡◌, ℕ, zero, suc, ◌+◌, ◌<◌, List, [], ◌∷◌, ◌++◌, length, map, get_or, take, refl, All, arith}
 use Rattle.std.proofs.lemmas.List.{map_more}
+use Rattle.k42_kinds.specs.declared.operation.Op.{Op}
+use Rattle.k42_kinds.specs.declared.operation.Reply.{Reply}
 use Rattle.k42_kinds.specs.declared.entry.Entry.{Entry}
 use Rattle.std.specs.Prelude.{slice_get}
 use Rattle.std.specs.Option.{option_map_or}
@@ -31,7 +33,7 @@ unfolding calls_among
 number_at script caller place known within = number_of_worker script.workers caller place known within
 
 -- the line of one more entry
-pub lines-more : (script : Script) (version : ℕ) (entries : List Entry) (i : ℕ) (entry : Entry) → i < length entries → entry ≡ get_or entries i entry → All (HasLine script) entries →
+pub lines-more : (script : Script) (version : ℕ) (entries : List (Entry Op Reply)) (i : ℕ) (entry : Entry Op Reply) → i < length entries → entry ≡ get_or entries i entry → All (HasLine script) entries →
     map (line_of script version) (take i entries) ++ line_at version (get_or (numbers_at (all_line_numbers script) entry.caller) entry.index 0) entry ∷ [] ≡ map (line_of script version) (take (i + 1) entries)
 lines-more script version entries i entry within read placed =
     let line : HasLine script entry = rw read (placed i entry within) in

@@ -232,7 +232,7 @@ unfolding call_at
 call_again script object kind op rest found is own page fits = rw (found, is, operation_again kind op rest own page fits) refl
 
 -- an act that is spelled is read
-pub act_again : (script : Script) (object : ℕ) (kind : KindName) (act : Act) (rest : List (List ℕ)) → HasDistinctNames script → slice_get (kinds_of script) object ≡ Some kind → IsActOn kind act → FitsAct act
+pub act_again : (script : Script) (object : ℕ) (kind : KindName) (act : Act Op) (rest : List (List ℕ)) → HasDistinctNames script → slice_get (kinds_of script) object ≡ Some kind → IsActOn kind act → FitsAct act
     → act_at script (act_tokens (object_name script object) act ++ rest) ≡ Some (asked object act, rest)
 unfolding act_at
 act_again script object kind (Call op) rest names e is_on fits =

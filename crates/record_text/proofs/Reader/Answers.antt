@@ -79,31 +79,31 @@ reply_takes word tokens reply rest e =
     ]
 
 -- these tokens are an answer of the act, and what is left
-record TakesAnswer (act : Act) (word : List ℕ) (tokens : List (List ℕ)) (answer : Answer) (rest : List (List ℕ)) : Type 0 where
+record TakesAnswer (act : Act Op) (word : List ℕ) (tokens : List (List ℕ)) (answer : Answer Reply) (rest : List (List ℕ)) : Type 0 where
   spelled : word ∷ tokens ≡ answer_tokens answer ++ rest
   ends : Ends act answer
   fits : FitsAnswer answer
 
 -- the answer of a swap
-record TakesEnding (word : List ℕ) (tokens : List (List ℕ)) (answer : Answer) (rest : List (List ℕ)) : Type 0 where
+record TakesEnding (word : List ℕ) (tokens : List (List ℕ)) (answer : Answer Reply) (rest : List (List ℕ)) : Type 0 where
   spelled : word ∷ tokens ≡ answer_tokens answer ++ rest
   ends : EndsSwap answer
   fits : FitsAnswer answer
 
-word_ending : (own answer : Answer) (word : List ℕ) (tokens rest : List (List ℕ)) → answer_tokens own ≡ word ∷ [] → EndsSwap own → FitsAnswer own → ◌≡◌ {A = Found Answer} (Some (own, tokens)) (Some (answer, rest)) → TakesEnding word tokens answer rest
+word_ending : (own answer : Answer Reply) (word : List ℕ) (tokens rest : List (List ℕ)) → answer_tokens own ≡ word ∷ [] → EndsSwap own → FitsAnswer own → ◌≡◌ {A = Found (Answer Reply)} (Some (own, tokens)) (Some (answer, rest)) → TakesEnding word tokens answer rest
 word_ending own answer word tokens rest one ends fits e =
     let same = pair_is own answer tokens rest e in
-    subst (λ (a : Answer). TakesEnding word tokens a rest) same.0 (record { spelled = rw (one, same.1) refl; ends = ends; fits = fits })
+    subst (λ (a : Answer Reply). TakesEnding word tokens a rest) same.0 (record { spelled = rw (one, same.1) refl; ends = ends; fits = fits })
 
 -- the number behind the word of an answer
-record HasCount (low : ℕ) (of_number : ℕ → Answer) (tokens : List (List ℕ)) (answer : Answer) (rest : List (List ℕ)) : Type 0 where
+record HasCount (low : ℕ) (of_number : ℕ → Answer Reply) (tokens : List (List ℕ)) (answer : Answer Reply) (rest : List (List ℕ)) : Type 0 where
   number : ℕ
   is : of_number number ≡ answer
   spelled : tokens ≡ decimal number ∷ rest
   above : low ≤ number
   small : number < 2 ^ 32
 
-counted_takes : (low : ℕ) (of_number : ℕ → Answer) (tokens : List (List ℕ)) (answer : Answer) (rest : List (List ℕ)) → counted low of_number tokens ≡ Some (answer, rest) → HasCount low of_number tokens answer rest
+counted_takes : (low : ℕ) (of_number : ℕ → Answer Reply) (tokens : List (List ℕ)) (answer : Answer Reply) (rest : List (List ℕ)) → counted low of_number tokens ≡ Some (answer, rest) → HasCount low of_number tokens answer rest
 unfolding counted
 counted_takes low of_number tokens answer rest e =
     let first = step (number_at low most_32 tokens) (λ (number : ℕ × List (List ℕ)). Some (of_number number.0, number.1)) (answer, rest) e in
@@ -117,21 +117,21 @@ counted_takes low of_number tokens answer rest e =
       small = omega (arith, number.below);
     }
 
-done_takes : (tokens : List (List ℕ)) (answer : Answer) (rest : List (List ℕ)) → counted 0 Swapped tokens ≡ Some (answer, rest) → TakesEnding (codes "done") tokens answer rest
+done_takes : (tokens : List (List ℕ)) (answer : Answer Reply) (rest : List (List ℕ)) → counted 0 Swapped tokens ≡ Some (answer, rest) → TakesEnding (codes "done") tokens answer rest
 done_takes tokens answer rest e =
     let count = counted_takes 0 Swapped tokens answer rest e in
-    subst (λ (a : Answer). TakesEnding (codes "done") tokens a rest) count.is (record { spelled = ap (λ (left : List (List ℕ)). codes "done" ∷ left) count.spelled; ends = tt; fits = count.small })
+    subst (λ (a : Answer Reply). TakesEnding (codes "done") tokens a rest) count.is (record { spelled = ap (λ (left : List (List ℕ)). codes "done" ∷ left) count.spelled; ends = tt; fits = count.small })
 
-busy_takes : (tokens : List (List ℕ)) (answer : Answer) (rest : List (List ℕ)) → counted 1 Busy tokens ≡ Some (answer, rest) → TakesEnding (codes "busy") tokens answer rest
+busy_takes : (tokens : List (List ℕ)) (answer : Answer Reply) (rest : List (List ℕ)) → counted 1 Busy tokens ≡ Some (answer, rest) → TakesEnding (codes "busy") tokens answer rest
 busy_takes tokens answer rest e =
     let count = counted_takes 1 Busy tokens answer rest e in
-    subst (λ (a : Answer). TakesEnding (codes "busy") tokens a rest) count.is (record { spelled = ap (λ (left : List (List ℕ)). codes "busy" ∷ left) count.spelled; ends = count.above; fits = count.small })
+    subst (λ (a : Answer Reply). TakesEnding (codes "busy") tokens a rest) count.is (record { spelled = ap (λ (left : List (List ℕ)). codes "busy" ∷ left) count.spelled; ends = count.above; fits = count.small })
 
-ending_takes : (word : List ℕ) (tokens : List (List ℕ)) (answer : Answer) (rest : List (List ℕ)) → ending_of word tokens ≡ Some (answer, rest) → TakesEnding word tokens answer rest
+ending_takes : (word : List ℕ) (tokens : List (List ℕ)) (answer : Answer Reply) (rest : List (List ℕ)) → ending_of word tokens ≡ Some (answer, rest) → TakesEnding word tokens answer rest
 ending_takes word tokens answer rest e =
-    let from_gone : Found Answer = cond (bytes_eq word (codes "gone")) (Some (Gone, tokens)) None in
-    let from_spent : Found Answer = cond (bytes_eq word (codes "spent")) (Some (Spent, tokens)) from_gone in
-    let from_busy : Found Answer = cond (bytes_eq word (codes "busy")) (counted 1 Busy tokens) from_spent in
+    let from_gone : Found (Answer Reply) = cond (bytes_eq word (codes "gone")) (Some (Gone, tokens)) None in
+    let from_spent : Found (Answer Reply) = cond (bytes_eq word (codes "spent")) (Some (Spent, tokens)) from_gone in
+    let from_busy : Found (Answer Reply) = cond (bytes_eq word (codes "busy")) (counted 1 Busy tokens) from_spent in
     elim (word_or word (codes "done") (counted 0 Swapped tokens) from_busy (answer, rest) e) [
       | inl this ↦ rw this.0 (done_takes tokens answer rest this.1)
       | inr more ↦ elim (word_or word (codes "busy") (counted 1 Busy tokens) from_spent (answer, rest) more) [
@@ -147,27 +147,27 @@ ending_takes word tokens answer rest e =
     ]
 
 -- these tokens are an answer of the act, and what is left
-pub record FindsAnswer (act : Act) (tokens : List (List ℕ)) (answer : Answer) (rest : List (List ℕ)) : Type 0 where
+pub record FindsAnswer (act : Act Op) (tokens : List (List ℕ)) (answer : Answer Reply) (rest : List (List ℕ)) : Type 0 where
   pub spelled : tokens ≡ answer_tokens answer ++ rest
   pub ends : Ends act answer
   pub fits : FitsAnswer answer
 
-replied_takes : (word : List ℕ) (tokens : List (List ℕ)) (answer : Answer) (rest : List (List ℕ)) (act : Act) → ((reply : Reply) → Ends act (Replied reply)) → replied word tokens ≡ Some (answer, rest) → FindsAnswer act (word ∷ tokens) answer rest
+replied_takes : (word : List ℕ) (tokens : List (List ℕ)) (answer : Answer Reply) (rest : List (List ℕ)) (act : Act Op) → ((reply : Reply) → Ends act (Replied reply)) → replied word tokens ≡ Some (answer, rest) → FindsAnswer act (word ∷ tokens) answer rest
 unfolding replied
 replied_takes word tokens answer rest act ends e =
     let first = step (reply_of word tokens) (λ (reply : Reply × List (List ℕ)). Some (Replied reply.0, reply.1)) (answer, rest) e in
     let reply = reply_takes word tokens first.0.0 first.0.1 first.1 in
     let same = pair_is (Replied first.0.0) answer first.0.1 rest first.2 in
     let spelled : word ∷ tokens ≡ reply_tokens first.0.0 ++ rest = reply.spelled ∙ ap (λ (left : List (List ℕ)). reply_tokens first.0.0 ++ left) same.1 in
-    subst (λ (a : Answer). FindsAnswer act (word ∷ tokens) a rest) same.0 (record { spelled = spelled; ends = ends first.0.0; fits = reply.fits })
+    subst (λ (a : Answer Reply). FindsAnswer act (word ∷ tokens) a rest) same.0 (record { spelled = spelled; ends = ends first.0.0; fits = reply.fits })
 
-answered_takes : (act : Act) (word : List ℕ) (tokens : List (List ℕ)) (answer : Answer) (rest : List (List ℕ)) → answer_of act word tokens ≡ Some (answer, rest) → FindsAnswer act (word ∷ tokens) answer rest
+answered_takes : (act : Act Op) (word : List ℕ) (tokens : List (List ℕ)) (answer : Answer Reply) (rest : List (List ℕ)) → answer_of act word tokens ≡ Some (answer, rest) → FindsAnswer act (word ∷ tokens) answer rest
 answered_takes (Call op) word tokens answer rest e = replied_takes word tokens answer rest (Call op) (λ reply. tt) e
 answered_takes (Swap to) word tokens answer rest e =
     let ending = ending_takes word tokens answer rest e in
     record { spelled = ending.spelled; ends = ending.ends; fits = ending.fits }
 
-pub answer_takes : (act : Act) (tokens : List (List ℕ)) (answer : Answer) (rest : List (List ℕ)) → answer_at act tokens ≡ Some (answer, rest) → FindsAnswer act tokens answer rest
+pub answer_takes : (act : Act Op) (tokens : List (List ℕ)) (answer : Answer Reply) (rest : List (List ℕ)) → answer_at act tokens ≡ Some (answer, rest) → FindsAnswer act tokens answer rest
 unfolding answer_at
 answer_takes act [] answer rest e = absurd cc
 answer_takes act (word ∷ tokens) answer rest e = answered_takes act word tokens answer rest e
@@ -212,7 +212,7 @@ reply_again op (replies.Text text) rest fits = rw (text_again text rest fits) re
 reply_again op replies.Zero rest fits = refl
 reply_again op replies.Gone rest fits = refl
 
-ending_again : (answer : Answer) (rest : List (List ℕ)) → EndsSwap answer → FitsAnswer answer → (token_at (answer_tokens answer ++ rest) >>= λ word. ending_of word.0 word.1) ≡ Some (answer, rest)
+ending_again : (answer : Answer Reply) (rest : List (List ℕ)) → EndsSwap answer → FitsAnswer answer → (token_at (answer_tokens answer ++ rest) >>= λ word. ending_of word.0 word.1) ≡ Some (answer, rest)
 unfolding counted
 ending_again (Replied reply) rest ends fits = absurd ends
 ending_again (Swapped number) rest ends fits = rw (number_again 0 most_32 number rest (omega arith) (omega arith) (omega (arith, fits))) refl
@@ -221,7 +221,7 @@ ending_again Spent rest ends fits = refl
 ending_again Gone rest ends fits = refl
 ending_again (Abandoned number) rest ends fits = absurd ends
 
-call_again : (op : Op) (answer : Answer) (rest : List (List ℕ)) → Ends (Call op) answer → FitsAnswer answer → answer_at (Call op) (answer_tokens answer ++ rest) ≡ Some (answer, rest)
+call_again : (op : Op) (answer : Answer Reply) (rest : List (List ℕ)) → Ends (Call op) answer → FitsAnswer answer → answer_at (Call op) (answer_tokens answer ++ rest) ≡ Some (answer, rest)
 call_again op (Replied reply) rest ends fits = reply_again op reply rest fits
 call_again op (Swapped number) rest ends fits = absurd ends
 call_again op (Busy number) rest ends fits = absurd ends
@@ -230,7 +230,7 @@ call_again op Gone rest ends fits = absurd ends
 call_again op (Abandoned number) rest ends fits = absurd ends
 
 -- an answer that is spelled is read
-pub answer_again : (act : Act) (answer : Answer) (rest : List (List ℕ)) → Ends act answer → FitsAnswer answer → answer_at act (answer_tokens answer ++ rest) ≡ Some (answer, rest)
+pub answer_again : (act : Act Op) (answer : Answer Reply) (rest : List (List ℕ)) → Ends act answer → FitsAnswer answer → answer_at act (answer_tokens answer ++ rest) ≡ Some (answer, rest)
 unfolding answer_at
 answer_again (Call op) answer rest ends fits = call_again op answer rest ends fits
 answer_again (Swap to) answer rest ends fits = ending_again answer rest ends fits

@@ -4,6 +4,7 @@ use Rattle.std.specs.Prelude.{Option, Some, codes}
 use Rattle.std.specs.Fmt.{decimal}
 use Rattle.std.proofs.lemmas.List.{append_assoc, append-nil}
 use Rattle.std.proofs.lemmas.Option.{same_Some}
+use Rattle.k42_kinds.specs.declared.operation.Reply.{Reply}
 use Rattle.k42_kinds.specs.declared.entry.Answer.{Answer}
 use Rattle.script_text.specs.Sound.{HasDistinctNames}
 use Rattle.script_text.specs.declared.script.Script.{Script}
@@ -43,7 +44,7 @@ parts_in_a_row stamp worker number equals mark act answer extra t0 t1 t2 t3 t4 t
     rw (e0, e1, e2, e3, e4, e5, e6, e7, e8) (sym (regrouped stamp worker number equals mark act answer extra))
 
 -- the line of what was read
-entry_of : ℕ → ℕ → ℕ → Asked → Answer → ℕ → Option Extra → RecordLine
+entry_of : ℕ → ℕ → ℕ → Asked → Answer Reply → ℕ → Option Extra → RecordLine
 entry_of stamp worker number asks answer incarnation extra = record {
   stamp = stamp;
   worker = worker;
@@ -56,15 +57,15 @@ entry_of stamp worker number asks answer incarnation extra = record {
 }
 
 -- what is read behind each part
-behind_extra : ℕ → ℕ → ℕ → Asked → Answer → ℕ → Option Extra × List (List ℕ) → Option RecordLine
+behind_extra : ℕ → ℕ → ℕ → Asked → Answer Reply → ℕ → Option Extra × List (List ℕ) → Option RecordLine
 behind_extra stamp worker number asks answer incarnation extra =
     at_end extra.1 >>= (λ (done : Unit {0}). Some (entry_of stamp worker number asks answer incarnation extra.0))
 
-behind_incarnation : ℕ → ℕ → ℕ → ℕ → Asked → Answer → ℕ × List (List ℕ) → Option RecordLine
+behind_incarnation : ℕ → ℕ → ℕ → ℕ → Asked → Answer Reply → ℕ × List (List ℕ) → Option RecordLine
 behind_incarnation version stamp worker number asks answer incarnation =
     extra_at version asks.act incarnation.1 >>= behind_extra stamp worker number asks answer incarnation.0
 
-behind_answer : ℕ → ℕ → ℕ → ℕ → Asked → Answer × List (List ℕ) → Option RecordLine
+behind_answer : ℕ → ℕ → ℕ → ℕ → Asked → Answer Reply × List (List ℕ) → Option RecordLine
 behind_answer version stamp worker number asks answer =
     marked_at 64 answer.1 >>= behind_incarnation version stamp worker number asks answer.0
 

@@ -4,6 +4,7 @@ use Rattle.std.specs.Prelude.{Option, Some, None, IfSome, MatchOption, codes}
 use Rattle.std.specs.Fmt.{decimal}
 use Rattle.std.proofs.lemmas.Bool.Decides.{nat_tests}
 use Rattle.std.proofs.lemmas.Option.{same_Some}
+use Rattle.k42_kinds.specs.declared.operation.Op.{Op}
 use Rattle.k42_kinds.specs.declared.entry.Act.{Act}
 use Rattle.k42_kinds.specs.declared.entry.Act.TheVariants.{Call, Swap}
 use Rattle.record_text.specs.Texts.{generation_token, extra_tokens, first_tokens, last_tokens}
@@ -15,12 +16,12 @@ use Rattle.record_text.specs.declared.record.Extra.{Extra}
 use Rattle.record_text.proofs.Reader.Parts.{step, chosen, pair_is, word_passes, word_again, number_takes, number_again, marked_takes, marked_again, end_is}
 
 -- the generation of an act
-record TakesGeneration (act : Act) (tokens : List (List ℕ)) (generation : Option ℕ) (rest : List (List ℕ)) : Type 0 where
+record TakesGeneration (act : Act Op) (tokens : List (List ℕ)) (generation : Option ℕ) (rest : List (List ℕ)) : Type 0 where
   spelled : tokens ≡ generation_token generation ∷ rest
   has : HasGeneration act generation
   small : IfSome generation (λ (g : ℕ). g < 2 ^ 32)
 
-some_takes : (act : Act) (tokens : List (List ℕ)) (generation : Option ℕ) (rest : List (List ℕ)) → ((g : ℕ) → HasGeneration act (Some g)) → some_generation tokens ≡ Some (generation, rest) → TakesGeneration act tokens generation rest
+some_takes : (act : Act Op) (tokens : List (List ℕ)) (generation : Option ℕ) (rest : List (List ℕ)) → ((g : ℕ) → HasGeneration act (Some g)) → some_generation tokens ≡ Some (generation, rest) → TakesGeneration act tokens generation rest
 unfolding some_generation
 some_takes act tokens generation rest has e =
     let first = step (marked_at 103 tokens) (λ (g : ℕ × List (List ℕ)). Some (Some g.0, g.1)) (generation, rest) e in
@@ -32,7 +33,7 @@ some_takes act tokens generation rest has e =
 nothing_told : List (List ℕ) → Found (Option ℕ)
 nothing_told left = Some (None, left)
 
-none_takes : (act : Act) (tokens : List (List ℕ)) (generation : Option ℕ) (rest : List (List ℕ)) → HasGeneration act None → no_generation tokens ≡ Some (generation, rest) → TakesGeneration act tokens generation rest
+none_takes : (act : Act Op) (tokens : List (List ℕ)) (generation : Option ℕ) (rest : List (List ℕ)) → HasGeneration act None → no_generation tokens ≡ Some (generation, rest) → TakesGeneration act tokens generation rest
 unfolding no_generation nothing_told
 none_takes act tokens generation rest has e =
     let first = step (behind_word (codes "g-") tokens) (λ (left : List (List ℕ)). nothing_told left) (generation, rest) e in
@@ -41,12 +42,12 @@ none_takes act tokens generation rest has e =
     let spelled : tokens ≡ codes "g-" ∷ rest = word ∙ ap (λ (left : List (List ℕ)). codes "g-" ∷ left) same.1 in
     subst (λ (g : Option ℕ). TakesGeneration act tokens g rest) same.0 (record { spelled = spelled; has = has; small = tt })
 
-generation_takes : (act : Act) (tokens : List (List ℕ)) (generation : Option ℕ) (rest : List (List ℕ)) → generation_at act tokens ≡ Some (generation, rest) → TakesGeneration act tokens generation rest
+generation_takes : (act : Act Op) (tokens : List (List ℕ)) (generation : Option ℕ) (rest : List (List ℕ)) → generation_at act tokens ≡ Some (generation, rest) → TakesGeneration act tokens generation rest
 generation_takes (Call op) tokens generation rest e = some_takes (Call op) tokens generation rest (λ g. refl) e
 generation_takes (Swap to) tokens generation rest e = none_takes (Swap to) tokens generation rest refl e
 
 -- what version 2 tells
-record TakesTold (act : Act) (tokens : List (List ℕ)) (extra : Option Extra) (rest : List (List ℕ)) : Type 0 where
+record TakesTold (act : Act Op) (tokens : List (List ℕ)) (extra : Option Extra) (rest : List (List ℕ)) : Type 0 where
   told : Extra
   is : Some told ≡ extra
   spelled : tokens ≡ (112 ∷ decimal told.proc) ∷ generation_token told.generation ∷ rest
@@ -56,7 +57,7 @@ record TakesTold (act : Act) (tokens : List (List ℕ)) (extra : Option Extra) (
 told_of : ℕ → Option ℕ → Extra
 told_of proc generation = record { proc = proc; generation = generation }
 
-told_takes : (act : Act) (tokens : List (List ℕ)) (extra : Option Extra) (rest : List (List ℕ)) → told_at act tokens ≡ Some (extra, rest) → TakesTold act tokens extra rest
+told_takes : (act : Act Op) (tokens : List (List ℕ)) (extra : Option Extra) (rest : List (List ℕ)) → told_at act tokens ≡ Some (extra, rest) → TakesTold act tokens extra rest
 unfolding told_at told_of
 told_takes act tokens extra rest e =
     let first = step (marked_at 112 tokens) (λ (proc : ℕ × List (List ℕ)). generation_at act proc.1 >>= (λ (generation : Option ℕ × List (List ℕ)). Some (Some (told_of proc.0 generation.0), generation.1))) (extra, rest) e in
@@ -73,17 +74,17 @@ told_takes act tokens extra rest e =
     }
 
 -- what a version tells besides
-pub record TakesExtra (version : ℕ) (act : Act) (tokens : List (List ℕ)) (extra : Option Extra) (rest : List (List ℕ)) : Type 0 where
+pub record TakesExtra (version : ℕ) (act : Act Op) (tokens : List (List ℕ)) (extra : Option Extra) (rest : List (List ℕ)) : Type 0 where
   pub spelled : tokens ≡ extra_tokens extra ++ rest
   pub told : MatchOption extra (version ≡ 1) (λ x. (version ≡ 2) × HasGeneration act x.generation)
   pub fits : IfSome extra FitsExtra
 
-in_version_2 : (version : ℕ) (act : Act) (tokens : List (List ℕ)) (extra : Option Extra) (rest : List (List ℕ)) → version ≡ 2 → told_at act tokens ≡ Some (extra, rest) → TakesExtra version act tokens extra rest
+in_version_2 : (version : ℕ) (act : Act Op) (tokens : List (List ℕ)) (extra : Option Extra) (rest : List (List ℕ)) → version ≡ 2 → told_at act tokens ≡ Some (extra, rest) → TakesExtra version act tokens extra rest
 in_version_2 version act tokens extra rest two e =
     let told = told_takes act tokens extra rest e in
     subst (λ (x : Option Extra). TakesExtra version act tokens x rest) told.is (record { spelled = told.spelled; told = (two, told.has); fits = told.fits })
 
-in_version_1 : (version : ℕ) (act : Act) (tokens : List (List ℕ)) (extra : Option Extra) (rest : List (List ℕ)) → version ≡ 1 → ◌≡◌ {A = Found (Option Extra)} (Some (None, tokens)) (Some (extra, rest)) → TakesExtra version act tokens extra rest
+in_version_1 : (version : ℕ) (act : Act Op) (tokens : List (List ℕ)) (extra : Option Extra) (rest : List (List ℕ)) → version ≡ 1 → ◌≡◌ {A = Found (Option Extra)} (Some (None, tokens)) (Some (extra, rest)) → TakesExtra version act tokens extra rest
 in_version_1 version act tokens extra rest one e =
     let same = pair_is None extra tokens rest e in
     subst (λ (x : Option Extra). TakesExtra version act tokens x rest) same.0 (record { spelled = same.1; told = one; fits = tt })
@@ -92,7 +93,7 @@ other_version : (version : ℕ) → IsVersion version → eqb version 2 ≡ fals
 other_version version (inl one) not_two = one
 other_version version (inr two) not_two = grind (arith, nat_tests, two, not_two)
 
-pub extra_takes : (version : ℕ) (act : Act) (tokens : List (List ℕ)) (extra : Option Extra) (rest : List (List ℕ)) → IsVersion version → extra_at version act tokens ≡ Some (extra, rest) → TakesExtra version act tokens extra rest
+pub extra_takes : (version : ℕ) (act : Act Op) (tokens : List (List ℕ)) (extra : Option Extra) (rest : List (List ℕ)) → IsVersion version → extra_at version act tokens ≡ Some (extra, rest) → TakesExtra version act tokens extra rest
 extra_takes version act tokens extra rest is e =
     elim (chosen (eqb version 2) (told_at act tokens) (Some (None, tokens)) (Some (extra, rest)) e) [
       | inl two ↦ in_version_2 version act tokens extra rest (grind (arith, nat_tests, two.0)) two.1
@@ -109,18 +110,18 @@ none_again : (rest : List (List ℕ)) → no_generation (generation_token None �
 unfolding no_generation
 none_again rest = rw (word_again (codes "g-") rest) refl
 
-generation_again : (act : Act) (generation : Option ℕ) (rest : List (List ℕ)) → HasGeneration act generation → IfSome generation (λ (g : ℕ). g < 2 ^ 32) → generation_at act (generation_token generation ∷ rest) ≡ Some (generation, rest)
+generation_again : (act : Act Op) (generation : Option ℕ) (rest : List (List ℕ)) → HasGeneration act generation → IfSome generation (λ (g : ℕ). g < 2 ^ 32) → generation_at act (generation_token generation ∷ rest) ≡ Some (generation, rest)
 generation_again (Call op) None rest has small = absurd cc
 generation_again (Call op) (Some g) rest has small = some_again g rest small
 generation_again (Swap to) None rest has small = none_again rest
 generation_again (Swap to) (Some g) rest has small = absurd cc
 
-told_again : (act : Act) (told : Extra) (rest : List (List ℕ)) → HasGeneration act told.generation → FitsExtra told → told_at act (extra_tokens (Some told) ++ rest) ≡ Some (Some told, rest)
+told_again : (act : Act Op) (told : Extra) (rest : List (List ℕ)) → HasGeneration act told.generation → FitsExtra told → told_at act (extra_tokens (Some told) ++ rest) ≡ Some (Some told, rest)
 unfolding told_at
 told_again act told rest has fits =
     rw (marked_again 112 told.proc (generation_token told.generation ∷ rest) fits.proc, generation_again act told.generation rest has fits.generation) refl
 
-pub extra_again : (version : ℕ) (act : Act) (extra : Option Extra) (rest : List (List ℕ)) → MatchOption extra (version ≡ 1) (λ x. (version ≡ 2) × HasGeneration act x.generation) → IfSome extra FitsExtra → extra_at version act (extra_tokens extra ++ rest) ≡ Some (extra, rest)
+pub extra_again : (version : ℕ) (act : Act Op) (extra : Option Extra) (rest : List (List ℕ)) → MatchOption extra (version ≡ 1) (λ x. (version ≡ 2) × HasGeneration act x.generation) → IfSome extra FitsExtra → extra_at version act (extra_tokens extra ++ rest) ≡ Some (extra, rest)
 extra_again version act None rest one fits = rw one refl
 extra_again version act (Some told) rest is fits = rw is.0 (told_again act told rest is.1 fits)
 

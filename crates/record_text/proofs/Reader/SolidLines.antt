@@ -75,7 +75,7 @@ arguments_solid Dirty page fits = refl
 arguments_solid Clean page fits = refl
 arguments_solid Seen page fits = refl
 
-act_solid : (object : List ℕ) (kind : KindName) (act : Act) → is_solid object ≡ true → IsActOn kind act → FitsAct act → are_solid (act_tokens object act) ≡ true
+act_solid : (object : List ℕ) (kind : KindName) (act : Act Op) → is_solid object ≡ true → IsActOn kind act → FitsAct act → are_solid (act_tokens object act) ≡ true
 act_solid object kind (Call op) solid is_on fits = rw (solid, operation_solid op, arguments_solid op is_on.1 fits) refl
 act_solid object kind (Swap (Layout layout)) solid is_on fits = rw (solid, layout_solid layout) refl
 act_solid object kind (Swap Dead) solid is_on fits = rw solid refl
@@ -91,7 +91,7 @@ reply_solid (replies.Text text) fits = two_solid (codes "text") text refl (text_
 reply_solid replies.Zero fits = refl
 reply_solid replies.Gone fits = refl
 
-answer_solid : (answer : Answer) → FitsAnswer answer → are_solid (answer_tokens answer) ≡ true
+answer_solid : (answer : Answer Reply) → FitsAnswer answer → are_solid (answer_tokens answer) ≡ true
 answer_solid (Replied reply) fits = reply_solid reply fits
 answer_solid (Swapped number) fits = two_solid (codes "done") (decimal number) refl (decimal_solid number (omega (arith, fits)))
 answer_solid (Busy number) fits = two_solid (codes "busy") (decimal number) refl (decimal_solid number (omega (arith, fits)))

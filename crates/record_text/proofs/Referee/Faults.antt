@@ -2,6 +2,8 @@
 use Rattle.std.proofs.Common.{◌≡◌, ℕ, ◌+◌, List, length, take, drop, refl, sym, ap, ◌∙◌, subst, inl, inr, ◌⊎◌}
 use Rattle.std.specs.Prelude.{Some, slice_get}
 use Rattle.std.proofs.lemmas.Option.{same_Some}
+use Rattle.k42_kinds.specs.declared.operation.Op.{Op}
+use Rattle.k42_kinds.specs.declared.operation.Reply.{Reply}
 use Rattle.k42_kinds.specs.declared.entry.Act.{Act}
 use Rattle.k42_kinds.specs.declared.entry.Act.TheVariants.{Call, Swap}
 use Rattle.k42_kinds.specs.declared.entry.Answer.{Answer}
@@ -10,7 +12,7 @@ use Rattle.script_text.specs.declared.script.Script.{Script}
 use Rattle.record_text.specs.Rules.{Rule, Stamps, Order, Calls, Swaps, Refusals, Generations, rule_number, all_rules, rule_of_answer, rule_of_act, IsLegalLine, IsNextLine, KeepsGenerations, Keeps, KeepsAt, BreaksFirst}
 use Rattle.record_text.specs.declared.record.RecordLine.{RecordLine}
 
-end_rules : (answer : Answer) → (rule_of_answer answer ≡ Swaps) ⊎ (rule_of_answer answer ≡ Refusals)
+end_rules : (answer : Answer Reply) → (rule_of_answer answer ≡ Swaps) ⊎ (rule_of_answer answer ≡ Refusals)
 end_rules (Replied reply) = inl refl
 end_rules (Swapped number) = inl refl
 end_rules (Busy number) = inr refl
@@ -18,7 +20,7 @@ end_rules Spent = inl refl
 end_rules Gone = inl refl
 end_rules (Abandoned number) = inl refl
 
-pub act_rules : (act : Act) (answer : Answer) → (rule_of_act act answer ≡ Calls) ⊎ ((rule_of_act act answer ≡ Swaps) ⊎ (rule_of_act act answer ≡ Refusals))
+pub act_rules : (act : Act Op) (answer : Answer Reply) → (rule_of_act act answer ≡ Calls) ⊎ ((rule_of_act act answer ≡ Swaps) ⊎ (rule_of_act act answer ≡ Refusals))
 act_rules (Call op) answer = inl refl
 act_rules (Swap to) answer = inr (end_rules answer)
 

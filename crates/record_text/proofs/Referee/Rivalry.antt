@@ -7,6 +7,8 @@ use Rattle.std.proofs.lemmas.Bool.{eqb-true, eq-eqb, ne_eqb, and_parts, and_from
 use Rattle.std.proofs.lemmas.List.{length-map, map-append, take-append-drop, get_or-map, get_or_default}
 use Rattle.std.proofs.lemmas.List.Elements.{All-append, All-take, All-drop}
 use Rattle.std.proofs.lemmas.List.Folds.{Any-from_list_any, list_any-from_Any, list_any-append}
+use Rattle.k42_kinds.specs.declared.operation.Op.{Op}
+use Rattle.k42_kinds.specs.declared.operation.Reply.{Reply}
 use Rattle.k42_kinds.specs.declared.entry.Act.{Act}
 use Rattle.k42_kinds.specs.declared.entry.Act.TheVariants.{Call, Swap}
 use Rattle.k42_kinds.specs.declared.entry.Answer.{Answer}
@@ -22,7 +24,7 @@ use Rattle.record_text.specs.declared.record.RecordLine.{RecordLine}
 use Rattle.k42_places.proofs.Rests.{drop_at}
 use Rattle.record_text.proofs.Referee.Sight.{all_early, early_all, all_late, late_all}
 
-settles_to : (answer : Answer) (number : ℕ) → has_number answer number ≡ true → Settles number answer
+settles_to : (answer : Answer Reply) (number : ℕ) → has_number answer number ≡ true → Settles number answer
 settles_to (Swapped other) number is = eqb-true other number is
 settles_to (Abandoned other) number is = cc is
 settles_to (Replied reply) number is = cc is
@@ -30,7 +32,7 @@ settles_to (Busy other) number is = cc is
 settles_to Spent number is = cc is
 settles_to Gone number is = cc is
 
-settles_from : (act : Act) (answer : Answer) (number : ℕ) → Ends act answer → Settles number answer → has_number answer number ≡ true
+settles_from : (act : Act Op) (answer : Answer Reply) (number : ℕ) → Ends act answer → Settles number answer → has_number answer number ≡ true
 settles_from act (Swapped other) number form is = eq-eqb other number is
 settles_from (Call op) (Abandoned other) number form is = absurd form
 settles_from (Swap to) (Abandoned other) number form is = absurd form
@@ -74,12 +76,12 @@ module _ (line : RecordLine) (number : ℕ) where
       let within : any.0 < length lines = omega (arith, any.2, length-map lines told) in
       let other = get_or lines any.0 line in
       let same : told other ≡ any.1 = sym (get_or-map told lines any.0 line any.1 within) ∙ any.3 in
-      (any.0, other, within, get_or_default lines any.0 other line within, rival_from other (forms any.0 line within) (subst (λ (e : Entry). IsRival (told line) number e) (sym same) any.4))
+      (any.0, other, within, get_or_default lines any.0 other line within, rival_from other (forms any.0 line within) (subst (λ (e : Entry Op Reply). IsRival (told line) number e) (sym same) any.4))
 
   -- the line itself is no rival, so the others alone count
   others_any : (before after : List RecordLine) → line.answer ≡ Busy number → has_rival (before ++ line ∷ after) line.worker line.object number ≡ list_any rivals (before ++ after)
   others_any before after busy =
-      let itself : rivals line ≡ false = ap (λ (a : Answer). ((line.object == line.object) && has_number a number) && not (line.worker == line.worker)) busy ∙ ap (λ (b : Bool). b && not (line.worker == line.worker)) (and_false (line.object == line.object)) in
+      let itself : rivals line ≡ false = ap (λ (a : Answer Reply). ((line.object == line.object) && has_number a number) && not (line.worker == line.worker)) busy ∙ ap (λ (b : Bool). b && not (line.worker == line.worker)) (and_false (line.object == line.object)) in
       list_any-append rivals before (line ∷ after)
       ∙ ap (λ (b : Bool). list_any rivals before || (b || list_any rivals after)) itself
       ∙ sym (list_any-append rivals before after)

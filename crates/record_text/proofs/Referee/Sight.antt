@@ -9,6 +9,8 @@ use Rattle.std.proofs.lemmas.Option.{same_Some, slice_get_within}
 use Rattle.std.proofs.Math.ListN.{drop_of_length-le}
 use Rattle.std.proofs.lemmas.List.Sums.{fold-append}
 use Rattle.std.proofs.lemmas.List.Elements.{All-from_recursion, recursion_from_All}
+use Rattle.k42_kinds.specs.declared.operation.Op.{Op}
+use Rattle.k42_kinds.specs.declared.operation.Reply.{Reply}
 use Rattle.k42_kinds.specs.declared.entry.Entry.{Entry}
 use Rattle.k42_kinds.specs.Legal.{IsOwn, IsNotPast, number_carried_out}
 use Rattle.record_text.specs.Told.{told}
@@ -57,11 +59,11 @@ shows_furthest lines line marks shows = record {
       ∙ sym (fold-append (reach_after worker object) 0 lines (line ∷ []));
 }
 
-module _ (entry : Entry) (number : ℕ) where
-  abbrev IsLateEnough : Entry → Type 0
+module _ (entry : Entry Op Reply) (number : ℕ) where
+  abbrev IsLateEnough : Entry Op Reply → Type 0
   IsLateEnough other = IsOwn entry other → number ≤ other.incarnation + 1
 
-  abbrev IsEarlyEnough : Entry → Type 0
+  abbrev IsEarlyEnough : Entry Op Reply → Type 0
   IsEarlyEnough other = IsOwn entry other → IsNotPast number other
 
   least_split : (incarnation rest : ℕ) → number ≤ least incarnation rest + 1 → (number ≤ incarnation + 1) × (number ≤ rest + 1)

@@ -12,6 +12,7 @@ use Rattle.k42_kinds.specs.declared.operation.KindName.{KindName}
 use Rattle.k42_kinds.specs.declared.states.AnyState.{AnyState}
 use Rattle.k42_kinds.specs.declared.watch.WatchState.{WatchState}
 use Rattle.k42_kinds.specs.declared.operation.Op.{Op}
+use Rattle.k42_kinds.specs.declared.operation.Reply.{Reply}
 use Rattle.k42_kinds.specs.declared.entry.Act.{Act}
 use Rattle.k42_kinds.specs.declared.entry.Act.TheVariants.{Call, Swap}
 use Rattle.k42_kinds.specs.declared.entry.Answer.{Answer}
@@ -51,7 +52,7 @@ fresh_kept declared = record {
   each = λ number kind object known made. fresh_at declared number kind object known made number;
 }
 
-module _ (kind : KindName) (before : List Entry) (line : RecordLine) (after : List Entry) (object : Object) (refusable : Bool)
+module _ (kind : KindName) (before : List (Entry Op Reply)) (line : RecordLine) (after : List (Entry Op Reply)) (object : Object) (refusable : Bool)
     (kept : IsKept kind line.object before object)
     (refusal : (number : ℕ) → line.answer ≡ Busy number → Decides refusable (IsLegalRefusal before (told line) after number)) where
   -- what the object keeps says whether the history has ended it
@@ -61,7 +62,7 @@ module _ (kind : KindName) (before : List Entry) (line : RecordLine) (after : Li
   replies_same : (op : Op) → (one_thread object).reply object.state op ≡ (watched_object kind).reply (state_of kind line.object before) op
   replies_same op = ap₂ (λ (k : KindName) (s : WatchState AnyState). (watched_object k).reply s op) kept.kind kept.state
 
-  end_to : (answer : Answer) → line.answer ≡ answer → EndsAs object refusable line.incarnation answer → IsLegalAnswer kind before (told line) after answer
+  end_to : (answer : Answer Reply) → line.answer ≡ answer → EndsAs object refusable line.incarnation answer → IsLegalAnswer kind before (told line) after answer
   end_to (Swapped number) is ends = record {
     next = ends.next ∙ ap (λ (n : ℕ). n + 1) kept.swaps;
     alive = sym ends_same ∙ ends.alive;
@@ -78,7 +79,7 @@ module _ (kind : KindName) (before : List Entry) (line : RecordLine) (after : Li
   end_to (Replied reply) is ends = absurd ends
   end_to (Abandoned number) is ends = absurd ends
 
-  end_from : (answer : Answer) → line.answer ≡ answer → EndsSwap answer → IsLegalAnswer kind before (told line) after answer → EndsAs object refusable line.incarnation answer
+  end_from : (answer : Answer Reply) → line.answer ≡ answer → EndsSwap answer → IsLegalAnswer kind before (told line) after answer → EndsAs object refusable line.incarnation answer
   end_from (Swapped number) is form legal = record {
     next = legal.next ∙ ap (λ (n : ℕ). n + 1) (sym kept.swaps);
     alive = ends_same ∙ legal.alive;
@@ -95,7 +96,7 @@ module _ (kind : KindName) (before : List Entry) (line : RecordLine) (after : Li
   end_from (Replied reply) is form legal = absurd legal
   end_from (Abandoned number) is form legal = absurd form
 
-  act_to : (act : Act) → IsActOn kind act → Tells object refusable line act → IsLegalAct kind before (told line) after act
+  act_to : (act : Act Op) → IsActOn kind act → Tells object refusable line act → IsLegalAct kind before (told line) after act
   act_to (Call op) on says = record {
     own_kind = on.0;
     replied = says.replied ∙ ap Replied (replies_same op);
@@ -103,7 +104,7 @@ module _ (kind : KindName) (before : List Entry) (line : RecordLine) (after : Li
   }
   act_to (Swap to) on says = end_to line.answer refl says
 
-  act_from : (act : Act) → Ends act line.answer → IsLegalAct kind before (told line) after act → Tells object refusable line act
+  act_from : (act : Act Op) → Ends act line.answer → IsLegalAct kind before (told line) after act → Tells object refusable line act
   act_from (Call op) form legal = record {
     replied = legal.replied ∙ ap Replied (sym (replies_same op));
     incarnation = legal.incarnation ∙ sym kept.swaps;
@@ -129,7 +130,7 @@ counted_on true number = refl
 counted_on false number = omega arith
 
 -- the object that answered is as the longer history says
-kept_here : (kind : KindName) (before : List Entry) (line : RecordLine) (object : Object) → IsKept kind line.object before object → IsKept kind line.object (before ++ told line ∷ []) (object_after object line.act line.answer)
+kept_here : (kind : KindName) (before : List (Entry Op Reply)) (line : RecordLine) (object : Object) → IsKept kind line.object before object → IsKept kind line.object (before ++ told line ∷ []) (object_after object line.act line.answer)
 kept_here kind before line object kept = record {
   kind = kept.kind;
   state = ap₂ (λ (k : KindName) (state : WatchState AnyState). state_after_act k state line.act line.answer) kept.kind kept.state ∙ sym (state_of-push kind line.object before (told line) ∙ rw (eq-eqb line.object line.object refl) refl);
@@ -137,7 +138,7 @@ kept_here kind before line object kept = record {
 }
 
 -- another object stays as it was
-kept_there : (kind : KindName) (before : List Entry) (number : ℕ) (other : Object) (entry : Entry) → entry.object ≢ number → IsKept kind number before other → IsKept kind number (before ++ entry ∷ []) other
+kept_there : (kind : KindName) (before : List (Entry Op Reply)) (number : ℕ) (other : Object) (entry : Entry Op Reply) → entry.object ≢ number → IsKept kind number before other → IsKept kind number (before ++ entry ∷ []) other
 kept_there kind before number other entry apart kept = record {
   kind = kept.kind;
   state = kept.state ∙ sym (state_of-push kind number before entry ∙ rw (ne_eqb entry.object number apart) refl);
@@ -162,6 +163,6 @@ kept_more kinds before line objects object all there = record {
 }
 
 -- what may be asked of an object of its kind, the object can take
-pub can_take : (object : Object) (kind : KindName) (act : Act) → object.plain.kind ≡ kind → IsActOn kind act → CanTake object act
+pub can_take : (object : Object) (kind : KindName) (act : Act Op) → object.plain.kind ≡ kind → IsActOn kind act → CanTake object act
 can_take object kind (Call op) same on = rw same on.0
 can_take object kind (Swap to) same on = tt

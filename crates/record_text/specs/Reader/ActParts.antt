@@ -113,7 +113,7 @@ abbrev pub worker_of : Script → List ℕ → Option ℕ
 worker_of script name = position (λ worker. bytes_eq name worker.name) script.workers
 
 -- an act on the object of this place
-abbrev pub asked : ℕ → Act → Asked
+abbrev pub asked : ℕ → Act Op → Asked
 asked object act = record { object = object; act = act }
 
 -- `OBJECT` of a swap, and behind it what the swap is to

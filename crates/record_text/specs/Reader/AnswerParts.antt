@@ -3,6 +3,7 @@ use Rattle.std.specs.Prelude.{ℕ, if◌then◌else◌, List, Some, None, codes}
 use Rattle.std.specs.Str.{bytes_eq}
 use Rattle.k42_kinds.specs.declared.operation.Reply.{Reply}
 use Rattle.k42_kinds.specs.declared.operation.Reply.TheVariants as replies
+use Rattle.k42_kinds.specs.declared.operation.Op.{Op}
 use Rattle.k42_kinds.specs.declared.entry.Act.{Act}
 use Rattle.k42_kinds.specs.declared.entry.Act.TheVariants.{Call, Swap}
 use Rattle.k42_kinds.specs.declared.entry.Answer.{Answer}
@@ -34,13 +35,13 @@ reply_of word tokens =
     else number_reply word tokens
 
 -- an answer with its number, which is at least so much
-unfoldable pub counted : ℕ → (ℕ → Answer) → List (List ℕ) → Found Answer
+unfoldable pub counted : ℕ → (ℕ → Answer Reply) → List (List ℕ) → Found (Answer Reply)
 counted low answer tokens = do
   number ← number_at low most_32 tokens
   Some (answer number.0, number.1)
 
 -- the answer of a swap that begins with this word
-abbrev pub ending_of : List ℕ → List (List ℕ) → Found Answer
+abbrev pub ending_of : List ℕ → List (List ℕ) → Found (Answer Reply)
 ending_of word tokens =
     if bytes_eq word (codes "done") then counted 0 Swapped tokens
     else if bytes_eq word (codes "busy") then counted 1 Busy tokens
@@ -49,18 +50,18 @@ ending_of word tokens =
     else None
 
 -- the reply to a call, as its answer
-unfoldable pub replied : List ℕ → List (List ℕ) → Found Answer
+unfoldable pub replied : List ℕ → List (List ℕ) → Found (Answer Reply)
 replied word tokens = do
   reply ← reply_of word tokens
   Some (Replied reply.0, reply.1)
 
 -- the answer of an act that begins with this word
-abbrev pub answer_of : Act → List ℕ → List (List ℕ) → Found Answer
+abbrev pub answer_of : Act Op → List ℕ → List (List ℕ) → Found (Answer Reply)
 answer_of (Call op) word tokens = replied word tokens
 answer_of (Swap to) word tokens = ending_of word tokens
 
 -- the answer of an act
-unfoldable pub answer_at : Act → List (List ℕ) → Found Answer
+unfoldable pub answer_at : Act Op → List (List ℕ) → Found (Answer Reply)
 answer_at act tokens = do
   word ← token_at tokens
   answer_of act word.0 word.1

@@ -1,5 +1,6 @@
 -- The lines of a record, by their tokens.
 use Rattle.std.specs.Prelude.{ℕ, ◌==◌, if◌then◌else◌, List, Option, Some, None, codes}
+use Rattle.k42_kinds.specs.declared.operation.Op.{Op}
 use Rattle.k42_kinds.specs.declared.entry.Act.{Act}
 use Rattle.k42_kinds.specs.declared.entry.Act.TheVariants.{Call, Swap}
 use Rattle.script_text.specs.declared.script.Script.{Script}
@@ -37,19 +38,19 @@ no_generation tokens = do
   rest ← behind_word (codes "g-") tokens
   Some (None, rest)
 
-abbrev pub generation_at : Act → List (List ℕ) → Found (Option ℕ)
+abbrev pub generation_at : Act Op → List (List ℕ) → Found (Option ℕ)
 generation_at (Call op) tokens = some_generation tokens
 generation_at (Swap to) tokens = no_generation tokens
 
 -- `pP` and the generation
-unfoldable pub told_at : Act → List (List ℕ) → Found (Option Extra)
+unfoldable pub told_at : Act Op → List (List ℕ) → Found (Option Extra)
 told_at act tokens = do
   proc ← marked_at 112 tokens
   generation ← generation_at act proc.1
   Some (Some (record { proc = proc.0; generation = generation.0 }), generation.1)
 
 -- what version 2 tells besides
-abbrev pub extra_at : ℕ → Act → List (List ℕ) → Found (Option Extra)
+abbrev pub extra_at : ℕ → Act Op → List (List ℕ) → Found (Option Extra)
 extra_at version act tokens = if version == 2 then told_at act tokens else Some (None, tokens)
 
 -- `STAMP WORKER LINE ACT = ANSWER @INCARNATION`, and what version 2 tells besides

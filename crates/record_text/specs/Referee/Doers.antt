@@ -3,6 +3,7 @@ use Rattle.std.specs.Prelude.{◌≡◌, ℕ, ◌+◌, ◌*◌, ◌^◌, ◌<◌
 use Rattle.std.specs.List.{list_any}
 use Rattle.std.specs.Ordering.{nat_cmp}
 use Rattle.std.specs.BTreeMap.{get}
+use Rattle.k42_kinds.specs.declared.operation.Reply.{Reply}
 use Rattle.k42_kinds.specs.declared.entry.Answer.{Answer}
 use Rattle.k42_kinds.specs.declared.entry.Answer.TheVariants.{Swapped}
 use Rattle.record_text.specs.declared.record.RecordLine.{RecordLine}
@@ -10,7 +11,7 @@ use Rattle.record_text.specs.declared.judging.doers.Doer.{Doer}
 use Rattle.record_text.specs.declared.judging.doers.Doers.{Doers}
 
 -- the swap of this number was carried out
-abbrev pub has_number : Answer → ℕ → Bool
+abbrev pub has_number : Answer Reply → ℕ → Bool
 has_number (Swapped other) number = other == number
 has_number _ number = false
 

@@ -9,6 +9,7 @@ use Rattle.k42_kinds.specs.declared.operation.KindName.{KindName}
 use Rattle.k42_kinds.specs.declared.operation.Op.{Op}
 use Rattle.k42_kinds.specs.declared.states.AnyState.{AnyState}
 use Rattle.k42_kinds.specs.declared.watch.WatchState.{WatchState}
+use Rattle.k42_kinds.specs.declared.operation.Reply.{Reply}
 use Rattle.k42_kinds.specs.declared.entry.Act.{Act}
 use Rattle.k42_kinds.specs.declared.entry.Act.TheVariants.{Call, Swap}
 use Rattle.k42_kinds.specs.declared.entry.Answer.{Answer}
@@ -20,14 +21,14 @@ use Rattle.record_text.specs.declared.record.RecordLine.{RecordLine}
 use Rattle.record_text.specs.declared.judging.object.Object.{Object}
 
 -- the object with this number is as the entries before say
-pub record IsKept (declared : KindName) (number : ℕ) (before : List Entry) (object : Object)
+pub record IsKept (declared : KindName) (number : ℕ) (before : List (Entry Op Reply)) (object : Object)
     : Type 0 where
   pub kind : object.plain.kind ≡ declared
   pub state : object.state ≡ state_of declared number before
   pub swaps : object.number ≡ number_of number before
 
 -- the object of one thread whose state is kept
-abbrev pub one_thread : Object → OneThread (WatchState AnyState)
+abbrev pub one_thread : Object → OneThread (WatchState AnyState) Op Reply
 one_thread object = watched_object object.plain.kind
 
 -- whether it was destroyed
@@ -54,7 +55,7 @@ pub record IsGoneNow (object : Object) (seen : ℕ) : Type 0 where
   pub incarnation : seen ≡ object.number
 
 -- a swap may be answered so, where it is known whether another's swap may refuse it
-abbrev pub EndsAs : Object → Bool → ℕ → Answer → Type 0
+abbrev pub EndsAs : Object → Bool → ℕ → Answer Reply → Type 0
 EndsAs object refusable incarnation (Swapped number) = IsNextSwap object incarnation number
 EndsAs object refusable incarnation Spent = IsSpentNow object incarnation
 EndsAs object refusable incarnation Gone = IsGoneNow object incarnation
@@ -62,14 +63,14 @@ EndsAs object refusable incarnation (Busy number) = refusable ≡ true
 EndsAs object refusable incarnation _ = ⊥
 
 -- the line tells what the object does next
-abbrev pub Tells : Object → Bool → RecordLine → Act → Type 0
+abbrev pub Tells : Object → Bool → RecordLine → Act Op → Type 0
 Tells object refusable line (Call op) = IsReply object line op
 Tells object refusable line (Swap to) = EndsAs object refusable line.incarnation line.answer
 
-abbrev pub number_after : ℕ → Answer → ℕ
+abbrev pub number_after : ℕ → Answer Reply → ℕ
 number_after number answer = if is_carried_out answer then number + 1 else number
 
-abbrev pub object_after : Object → Act → Answer → Object
+abbrev pub object_after : Object → Act Op → Answer Reply → Object
 object_after object act answer = record {
   plain = object.plain;
   state = state_after_act object.plain.kind object.state act answer;
@@ -81,7 +82,7 @@ abbrev pub fresh : Plain → Object
 fresh plain = record { plain = plain; state = (watched_object plain.kind).start; number = 0 }
 
 -- an operation is one that the object takes, and any object can be swapped
-abbrev pub CanTake : Object → Act → Type 0
+abbrev pub CanTake : Object → Act Op → Type 0
 CanTake object (Call op) = IsTrue ((one_thread object).takes op)
 CanTake object (Swap to) = Unit {0}
 

@@ -57,7 +57,7 @@ fn put_arguments(out: &mut Vec<u8>, op: &Op) -> Result<(), Memory>
 }
 
 /// Adds an act on the object of this name.
-pub fn put_act(out: &mut Vec<u8>, object: &[u8], act: &Act) -> Result<(), Memory>
+pub fn put_act(out: &mut Vec<u8>, object: &[u8], act: &Act<Op>) -> Result<(), Memory>
     ensures { OnOk result (
         out.new.items ≡ out.old.items ++ behind_spaces (spelling.act_tokens object.now act.now)) }
 {

@@ -6,7 +6,7 @@ ghost use Rattle.record_text.specs.Answers.{reply_tokens, answer_tokens};
 ghost use Rattle.record_text.specs.Spelling.{Ends};
 
 use crate::printing::tokens::{put_number, put_token};
-use k42_kinds::{Act, Answer, Reply};
+use k42_kinds::{Act, Answer, Op, Reply};
 use k42_memory::Memory;
 
 /// Adds what an object replied.
@@ -38,7 +38,7 @@ fn put_counted(out: &mut Vec<u8>, word: &[u8], number: u32) -> Result<(), Memory
 }
 
 /// Adds the answer of an act.
-pub fn put_answer(out: &mut Vec<u8>, act: &Act, answer: &Answer) -> Result<(), Memory>
+pub fn put_answer(out: &mut Vec<u8>, act: &Act<Op>, answer: &Answer<Reply>) -> Result<(), Memory>
     requires { Ends act.now answer.now }
     ensures { OnOk result (
         out.new.items ≡ out.old.items ++ behind_spaces (answer_tokens answer.now)) }

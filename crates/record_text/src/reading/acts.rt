@@ -17,7 +17,7 @@ use script_text::Script;
 #[derive(Clone, Copy)]
 pub struct Asked {
     pub object: u32,
-    pub act: Act,
+    pub act: Act<Op>,
 }
 
 fn place_of_worker(script: &Script, name: &[u8]) -> Option<usize>

@@ -5,7 +5,7 @@ ghost use Rattle.record_text.specs.Reader.Cursor.{Takes, left_tokens};
 
 use crate::reading::cursor::{Left, take_token};
 use crate::reading::parts::{is_word, number_of, take_small_number, take_text};
-use k42_kinds::{Act, Answer, Reply};
+use k42_kinds::{Act, Answer, Op, Reply};
 
 #[tactic(auto, unfolding(crate::specs::Reader::AnswerParts::text_reply))]
 fn take_text_reply(left: &mut Left<'_>) -> Option<Reply>
@@ -49,7 +49,7 @@ fn take_reply(left: &mut Left<'_>, word: &[u8]) -> Option<Reply>
 }
 
 #[tactic(auto, unfolding(crate::specs::Reader::AnswerParts::counted))]
-fn take_swapped(left: &mut Left<'_>) -> Option<Answer>
+fn take_swapped(left: &mut Left<'_>) -> Option<Answer<Reply>>
     ensures { Takes result left.new (parts.counted 0 Answer.Swapped (left_tokens left.old)) }
 {
     let number = take_small_number(left, 0)?;
@@ -57,7 +57,7 @@ fn take_swapped(left: &mut Left<'_>) -> Option<Answer>
 }
 
 #[tactic(auto, unfolding(crate::specs::Reader::AnswerParts::counted))]
-fn take_busy(left: &mut Left<'_>) -> Option<Answer>
+fn take_busy(left: &mut Left<'_>) -> Option<Answer<Reply>>
     ensures { Takes result left.new (parts.counted 1 Answer.Busy (left_tokens left.old)) }
 {
     let number = take_small_number(left, 1)?;
@@ -65,7 +65,7 @@ fn take_busy(left: &mut Left<'_>) -> Option<Answer>
 }
 
 /// Takes what is left of the answer of a swap that begins with this word.
-fn take_ending(left: &mut Left<'_>, word: &[u8]) -> Option<Answer>
+fn take_ending(left: &mut Left<'_>, word: &[u8]) -> Option<Answer<Reply>>
     ensures { Takes result left.new (parts.ending_of word.now (left_tokens left.old)) }
 {
     if is_word(word, "done") {
@@ -84,7 +84,7 @@ fn take_ending(left: &mut Left<'_>, word: &[u8]) -> Option<Answer>
 }
 
 #[tactic(auto, unfolding(crate::specs::Reader::AnswerParts::replied))]
-fn take_replied(left: &mut Left<'_>, word: &[u8]) -> Option<Answer>
+fn take_replied(left: &mut Left<'_>, word: &[u8]) -> Option<Answer<Reply>>
     ensures { Takes result left.new (parts.replied word.now (left_tokens left.old)) }
 {
     let reply = take_reply(left, word)?;
@@ -93,7 +93,7 @@ fn take_replied(left: &mut Left<'_>, word: &[u8]) -> Option<Answer>
 
 /// Takes the answer of this act.
 #[tactic(auto, unfolding(crate::specs::Reader::AnswerParts::answer_at))]
-pub fn take_answer(left: &mut Left<'_>, act: &Act) -> Option<Answer>
+pub fn take_answer(left: &mut Left<'_>, act: &Act<Op>) -> Option<Answer<Reply>>
     ensures { Takes result left.new (parts.answer_at act.now (left_tokens left.old)) }
 {
     let word = take_token(left)?;

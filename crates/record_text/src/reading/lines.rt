@@ -13,7 +13,7 @@ use crate::reading::cursor::{Left, expect_end, take_token};
 use crate::reading::parts::{take_marked, take_number, take_small_number, take_word};
 use crate::record::{Extra, RecordLine};
 use crate::version::Version;
-use k42_kinds::Act;
+use k42_kinds::{Act, Op};
 use script_text::{Script, number_up_to};
 
 fn version_of(token: &[u8]) -> Option<Version>
@@ -76,7 +76,7 @@ fn take_no_generation(left: &mut Left<'_>) -> Option<Option<u32>>
 }
 
 /// Takes the generation of a call, or that there is none.
-fn take_generation(left: &mut Left<'_>, act: &Act) -> Option<Option<u32>>
+fn take_generation(left: &mut Left<'_>, act: &Act<Op>) -> Option<Option<u32>>
     ensures { Takes result left.new (parts.generation_at act.now (left_tokens left.old)) }
 {
     match act {
@@ -86,7 +86,7 @@ fn take_generation(left: &mut Left<'_>, act: &Act) -> Option<Option<u32>>
 }
 
 #[tactic(auto, unfolding(crate::specs::Reader::LineParts::told_at))]
-fn take_told(left: &mut Left<'_>, act: &Act) -> Option<Option<Extra>>
+fn take_told(left: &mut Left<'_>, act: &Act<Op>) -> Option<Option<Extra>>
     ensures { Takes result left.new (parts.told_at act.now (left_tokens left.old)) }
 {
     let proc = take_marked(left, b'p')?;
@@ -95,7 +95,7 @@ fn take_told(left: &mut Left<'_>, act: &Act) -> Option<Option<Extra>>
 }
 
 /// Takes what this version tells besides.
-fn take_extra(left: &mut Left<'_>, version: Version, act: &Act) -> Option<Option<Extra>>
+fn take_extra(left: &mut Left<'_>, version: Version, act: &Act<Op>) -> Option<Option<Extra>>
     ensures { Takes result left.new
         (parts.extra_at (version_number version) act.now (left_tokens left.old)) }
 {

@@ -4,7 +4,7 @@ ghost use Rattle.k42_board.specs.declared.keep.Keep.TheVariants.{All};
 ghost use Rattle.k42_crews.specs.Ready.{AreFree, IsFree};
 
 use k42_crews::{close, last, start};
-use k42_kinds::{Entry, KindName, LayoutName};
+use k42_kinds::{Entry, KindName, LayoutName, Op, Reply};
 use k42_runtime::{History, Keep, ObjectPlan, Pass, Plan, System};
 use std::alloc::Global;
 use std::process::Abort;
@@ -36,7 +36,7 @@ pub(super) fn closed(
     alloc: Global,
     system: System,
     passes: Vec<Pass>,
-) -> Vec<Entry>
+) -> Vec<Entry<Op, Reply>>
     requires free { AreFree system passes.items }
     requires keeps { system.plan.keep ≡ All }
 {
@@ -45,7 +45,7 @@ pub(super) fn closed(
 }
 
 /// The entries of a history.
-fn entries_of(rt: &impl Abort, alloc: Global, history: &History) -> Vec<Entry>
+fn entries_of(rt: &impl Abort, alloc: Global, history: &History) -> Vec<Entry<Op, Reply>>
     ensures { result.items ≡ history.now.entries }
 {
     history.collect(alloc).expect(rt, "memory")

@@ -3,7 +3,7 @@ ghost use Rattle.std.specs.Prelude.{◌≡◌, length};
 ghost use Rattle.table_crews.specs.Ready.{HoldsNoCell};
 
 use co_any::AnyLayout;
-use k42_kinds::{Entry, KindName, LayoutName, Op};
+use k42_kinds::{Entry, KindName, LayoutName, Op, Reply};
 use k42_rule::{Keep, Sys};
 use std::alloc::Global;
 use std::process::Abort;
@@ -36,7 +36,7 @@ pub(super) fn finish(
     alloc: Global,
     sys: Sys<AnyLayout>,
     pass: Walk,
-) -> Vec<Vec<Entry>>
+) -> Vec<Vec<Entry<Op, Reply>>>
     requires callers { length sys.callers ≡ 1 }
     requires free { HoldsNoCell sys pass }
 {

@@ -12,7 +12,14 @@ use k42_rule::{Keep, Sys};
 use table_crews::Walk;
 
 /// The entry of a call of object 0 by caller 0 on processor 0.
-fn called(stamp: u64, index: u64, incarnation: u32, op: Op, reply: Reply, generation: u32) -> Entry
+fn called(
+    stamp: u64,
+    index: u64,
+    incarnation: u32,
+    op: Op,
+    reply: Reply,
+    generation: u32,
+) -> Entry<Op, Reply>
     requires { incarnation < 1_048_575 }
 {
     Entry {

@@ -4,7 +4,7 @@ ghost use Rattle.k42_board.specs.declared.keep.Keep.TheVariants.{All};
 ghost use Rattle.k42_crews.specs.Ready.{AreFree, IsFree};
 
 use k42_crews::{close, end, last, section, start};
-use k42_kinds::{Entry, KindName, LayoutName};
+use k42_kinds::{Entry, KindName, LayoutName, Op, Reply};
 use k42_runtime::{History, Keep, ObjectPlan, Pass, Plan, System};
 use std::alloc::Global;
 use std::process::Abort;
@@ -98,7 +98,7 @@ pub(super) fn closed(
     zero: Pass,
     one: Pass,
     two: Pass,
-) -> Vec<Entry>
+) -> Vec<Entry<Op, Reply>>
     requires zero { IsFree system zero }
     requires one { IsFree system one }
     requires two { IsFree system two }
@@ -127,7 +127,7 @@ pub(super) fn ended(
 }
 
 /// The entries of a history.
-fn entries_of(rt: &impl Abort, alloc: Global, history: &History) -> Vec<Entry>
+fn entries_of(rt: &impl Abort, alloc: Global, history: &History) -> Vec<Entry<Op, Reply>>
     ensures { result.items ≡ history.now.entries }
 {
     history.collect(alloc).expect(rt, "memory")
@@ -139,7 +139,7 @@ pub(super) fn sectioned(
     alloc: Global,
     system: &System,
     passes: &mut Vec<Pass>,
-) -> Vec<Entry>
+) -> Vec<Entry<Op, Reply>>
     requires free { AreFree system.now passes.old.items }
     ensures free { AreFree system.now passes.new.items }
 {

@@ -11,7 +11,7 @@ use std::process::Abort;
 use std::sync::Wait;
 
 /// What is done with the first object, and how it is answered.
-pub(super) type Deed = (Act, Answer);
+pub(super) type Deed = (Act<Op>, Answer<Reply>);
 
 pub(super) fn called(op: Op, reply: Reply) -> Deed {
     (Act::Call(op), Answer::Replied(reply))
@@ -22,7 +22,7 @@ pub(super) fn swapped(to: To, number: u32) -> Deed {
 }
 
 /// The answer in the entry of a swap.
-fn told(end: Swapped) -> Answer {
+fn told(end: Swapped) -> Answer<Reply> {
     match end {
         Swapped::Done(number) => Answer::Swapped(number),
         Swapped::Busy(number) => Answer::Busy(number),
@@ -37,8 +37,8 @@ fn answer_to<R: Abort + Wait>(
     alloc: Global,
     system: &System,
     pass: &mut Pass,
-    act: &Act,
-) -> Answer
+    act: &Act<Op>,
+) -> Answer<Reply>
     requires free { IsFree system.now pass.old }
     ensures free { IsFree system.now pass.new }
 {

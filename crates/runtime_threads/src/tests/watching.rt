@@ -27,7 +27,7 @@ pub(super) struct Instrument {
 }
 
 /// What the object is to tell.
-fn told(figure: Option<u64>) -> Answer {
+fn told(figure: Option<u64>) -> Answer<Reply> {
     match figure {
         Some(count) => Answer::Replied(Reply::Number(count)),
         None => Answer::Replied(Reply::None),
@@ -35,7 +35,7 @@ fn told(figure: Option<u64>) -> Answer {
 }
 
 /// How many entries ask for the count, if each of them was told what the entries before it say.
-pub(super) fn figures_told(entries: &[Entry]) -> Option<u64> {
+pub(super) fn figures_told(entries: &[Entry<Op, Reply>]) -> Option<u64> {
     let mut figure = None;
     let mut asked = 0u64;
     for entry in entries {
@@ -56,7 +56,7 @@ pub(super) fn figures_told(entries: &[Entry]) -> Option<u64> {
 }
 
 /// Whether some entry tells at least so much.
-pub(super) fn has_figure(entries: &[Entry], least: u64) -> bool {
+pub(super) fn has_figure(entries: &[Entry<Op, Reply>], least: u64) -> bool {
     entries.iter().any(|entry| match (&entry.act, &entry.answer) {
         (Act::Call(Op::Seen), Answer::Replied(Reply::Number(count))) => *count >= least,
         _ => false,

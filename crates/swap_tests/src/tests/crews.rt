@@ -3,7 +3,7 @@ ghost use Rattle.std.specs.Prelude.{◌≡◌, length};
 ghost use Rattle.table_crews.specs.Ready.{HoldsNoCell};
 
 use co_any::AnyLayout;
-use k42_kinds::{Entry, LayoutName, Op};
+use k42_kinds::{Entry, LayoutName, Op, Reply};
 use k42_rule::Sys;
 use std::alloc::Global;
 use std::process::Abort;
@@ -33,7 +33,7 @@ pub(super) fn finish(
     zero: Walk,
     one: Walk,
     two: Walk,
-) -> Vec<Vec<Entry>>
+) -> Vec<Vec<Entry<Op, Reply>>>
     requires callers { length sys.callers ≡ 3 }
     requires free { HoldsNoCell sys zero × HoldsNoCell sys one × HoldsNoCell sys two }
 {

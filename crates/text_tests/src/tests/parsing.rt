@@ -59,7 +59,7 @@ fn refusal(line: u32, cause: ScriptCause) -> ParseEnd {
 }
 
 /// A line that asks this of the object of this place.
-fn asks(line: u32, object: u32, act: Act) -> Item {
+fn asks(line: u32, object: u32, act: Act<Op>) -> Item {
     Item::Line(CallLine { line, object, act })
 }
 

@@ -3,7 +3,7 @@ ghost use Rattle.std.specs.Prelude.{◌≡◌, length};
 ghost use Rattle.table_crews.specs.Ready.{HoldsNoCell};
 
 use co_any::AnyLayout;
-use k42_kinds::{Entry, LayoutName};
+use k42_kinds::{Entry, LayoutName, Op, Reply};
 use k42_rule::Sys;
 use std::alloc::Global;
 use std::process::Abort;
@@ -41,7 +41,7 @@ pub(super) fn finish(
     sys: Sys<AnyLayout>,
     front: (Walk, Walk),
     back: (Walk, Walk),
-) -> Vec<Vec<Entry>>
+) -> Vec<Vec<Entry<Op, Reply>>>
     requires callers { length sys.callers ≡ 4 }
     requires front { HoldsNoCell sys front.0 × HoldsNoCell sys front.1 }
     requires back { HoldsNoCell sys back.0 × HoldsNoCell sys back.1 }

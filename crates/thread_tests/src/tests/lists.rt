@@ -6,7 +6,7 @@ use std::process::Abort;
 
 /// Whether the entry was drawn at the cell that serves its caller's processor: the rows of even number are spread, and
 /// those of odd number are shared.
-fn is_in_place(entry: &Entry) -> bool {
+fn is_in_place(entry: &Entry<Op, Reply>) -> bool {
     let cell = if entry.incarnation % 2 == 0 {
         entry.proc
     } else {
@@ -16,7 +16,7 @@ fn is_in_place(entry: &Entry) -> bool {
 }
 
 /// Whether the entry tells of a call of the caller, which is on one of two processors.
-fn is_call(entry: &Entry, caller: u32, index: usize) -> bool {
+fn is_call(entry: &Entry<Op, Reply>, caller: u32, index: usize) -> bool {
     entry.caller == caller
         && entry.index as usize == index
         && entry.proc == caller % 2
@@ -24,14 +24,14 @@ fn is_call(entry: &Entry, caller: u32, index: usize) -> bool {
 }
 
 /// Whether the entry tells that the caller has added its amount.
-fn is_add(entry: &Entry, caller: u32, index: usize) -> bool {
+fn is_add(entry: &Entry<Op, Reply>, caller: u32, index: usize) -> bool {
     is_call(entry, caller, index)
         && entry.act == Act::Call(Op::Add(amount_of(caller)))
         && entry.answer == Answer::Replied(Reply::Done)
 }
 
 /// Whether the entries tell of the caller's adds, one for each stamp.
-pub(super) fn are_adds(entries: &[Entry], caller: u32, stamps: &[u64]) -> bool {
+pub(super) fn are_adds(entries: &[Entry<Op, Reply>], caller: u32, stamps: &[u64]) -> bool {
     if entries.len() != stamps.len() {
         return false;
     }
@@ -44,14 +44,14 @@ pub(super) fn are_adds(entries: &[Entry], caller: u32, stamps: &[u64]) -> bool {
 }
 
 /// Whether the entry tells that the caller has found the sum.
-pub(super) fn is_sum(entry: &Entry, caller: u32, index: usize, sum: u64) -> bool {
+pub(super) fn is_sum(entry: &Entry<Op, Reply>, caller: u32, index: usize, sum: u64) -> bool {
     is_call(entry, caller, index)
         && entry.act == Act::Call(Op::Get)
         && entry.answer == Answer::Replied(Reply::Number(sum))
 }
 
 /// Whether the entry tells of the swap of the object to its incarnation of that number.
-pub(super) fn is_swap(entry: &Entry, number: u32) -> bool {
+pub(super) fn is_swap(entry: &Entry<Op, Reply>, number: u32) -> bool {
     entry.caller == 3
         && entry.object == 0
         && entry.incarnation == number.saturating_sub(1)
@@ -60,7 +60,7 @@ pub(super) fn is_swap(entry: &Entry, number: u32) -> bool {
 }
 
 /// How many of the entries are of calls in that row.
-pub(super) fn calls_in(lists: &[Vec<Entry>], row: u32) -> usize {
+pub(super) fn calls_in(lists: &[Vec<Entry<Op, Reply>>], row: u32) -> usize {
     let mut calls = 0usize;
     for list in lists {
         let here = list.iter().filter(|entry| entry.incarnation == row
@@ -71,7 +71,7 @@ pub(super) fn calls_in(lists: &[Vec<Entry>], row: u32) -> usize {
 }
 
 /// Whether no two entries bear the same stamp of the same cell.
-pub(super) fn stand_once(rt: &impl Abort, alloc: Global, lists: &[Vec<Entry>]) -> bool {
+pub(super) fn stand_once(rt: &impl Abort, alloc: Global, lists: &[Vec<Entry<Op, Reply>>]) -> bool {
     let mut drawn = Vec::new(alloc);
     for list in lists {
         for entry in list {

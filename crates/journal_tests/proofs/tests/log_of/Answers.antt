@@ -1,11 +1,13 @@
 use Rattle.std.proofs.Common.{rules, ◌≡◌, ◌+◌, List, [], ◌∷◌, ◌++◌, length, refl, sym, ap, ◌∙◌, subst, arith}
 use Rattle.std.proofs.lemmas.List.{length-append}
+use Rattle.k42_kinds.specs.declared.operation.Op.{Op}
+use Rattle.k42_kinds.specs.declared.operation.Reply.{Reply}
 use Rattle.k42_kinds.specs.declared.entry.Entry.{Entry}
 use Rattle.k42_log.specs.Entries.{Owner}
 use Rattle.k42_stamp.proofs.Listed.{IsListUpTo, list_push}
 use Rattle.journal_tests.proofs.tests.log_of.Goals as goal
 
-length_more : (entry : Entry) (old new : List Entry) → new ≡ old ++ entry ∷ [] → length new ≡ length old + 1
+length_more : (entry : Entry Op Reply) (old new : List (Entry Op Reply)) → new ≡ old ++ entry ∷ [] → length new ≡ length old + 1
 length_more entry old new is = ap length is ∙ length-append old (entry ∷ [])
 
 pub loop-stamp-preserved : goal.loop-stamp-preserved

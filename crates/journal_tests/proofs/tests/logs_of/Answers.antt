@@ -1,6 +1,8 @@
 use Rattle.std.proofs.Common.{rules, ◌≡◌, ◌+◌, List, [], ◌∷◌, ◌++◌, length, sym, ap, subst, arith}
 use Rattle.std.proofs.lemmas.List.{length-append}
 use Rattle.std.proofs.lemmas.List.Sums.{sum_by-cons}
+use Rattle.k42_kinds.specs.declared.operation.Op.{Op}
+use Rattle.k42_kinds.specs.declared.operation.Reply.{Reply}
 use Rattle.k42_log.specs.Logs.{LogSeen}
 use Rattle.k42_stamp.specs.Lists.{AreLists}
 use Rattle.k42_stamp.specs.Merging.{entries_in}
@@ -8,7 +10,7 @@ use Rattle.k42_stamp.proofs.Listed.{lists_push}
 use Rattle.k42_journal.specs.Logs.{entries_of, lists_of}
 use Rattle.journal_tests.proofs.tests.logs_of.Goals as goal
 
-total_more : (logs : List LogSeen) (log : LogSeen) → entries_in (lists_of (logs ++ log ∷ [])) ≡ entries_in (lists_of logs) + length log.entries
+total_more : (logs : List (LogSeen Op Reply)) (log : LogSeen Op Reply) → entries_in (lists_of (logs ++ log ∷ [])) ≡ entries_in (lists_of logs) + length log.entries
 total_more [] log = omega (arith, sum_by-cons length log.entries [])
 total_more (one ∷ logs) log =
     omega (arith, total_more logs log, sum_by-cons length one.entries (lists_of logs), sum_by-cons length one.entries (lists_of (logs ++ log ∷ [])))

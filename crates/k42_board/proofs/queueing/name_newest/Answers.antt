@@ -24,7 +24,7 @@ split_seat-requires g c =
     let key = c.args.board.now.shared.key in let before = c.args.seat.now.me in
     let F = layouts_on g.L.Kind.object g.L.Layout.tag_of g.L.Layout.ways g.L.Layout.whole g.L.Layout.serves g.L.Layout.admitted g.L.Layout.act_of key.procs key.callers.items in
     let now : IsSeatOf c.load.new.seat.me (pass_in before.0) =
-    c.load.ensures.2.0 ∙ ap (λ (m : Seated _). (on_pass (λ v. v) m.0, m.1)) c.requires.pass in (
+    c.load.ensures.2.0 ∙ ap (λ (m : Seated _ _ _). (on_pass (λ v. v) m.0, m.1)) c.requires.pass in (
       c.load.ensures.0 ∙ c.requires.ours.0,
       (let wide = c.requires.ours.1 in omega (arith, wide)),
       splits_newest F key.layouts.items (length key.callers.items) _ (pass_in before.0) c.load.new.seat.me now c.requires.holds,

@@ -12,7 +12,7 @@ join_seat-requires g c =
     let F = layouts_on g.L.Kind.object g.L.Layout.tag_of g.L.Layout.ways g.L.Layout.whole g.L.Layout.serves g.L.Layout.admitted g.L.Layout.act_of key.procs key.callers.items in (
       c.requires.ours.0,
       c.requires.row.0,
-      ap (λ (m : Seated _). m.1) c.requires.row.1,
+      ap (λ (m : Seated _ _ _). m.1) c.requires.row.1,
       (let wide = c.requires.ours.1 in omega (arith, wide)),
       joins_back F key.layouts.items (length key.callers.items) _ (pass_in c.args.seat.now.me.0) c.args.seat.now.me c.requires.pass _ (row_named c.args.named.me.0) c.args.named.me c.requires.row.1
           1 (omega arith) c.requires.few (λ more. (c.requires.all c.if-granted.true, c.requires.granted c.if-granted.true)),
@@ -24,7 +24,7 @@ join_seat-requires-else-granted g c =
     let F = layouts_on g.L.Kind.object g.L.Layout.tag_of g.L.Layout.ways g.L.Layout.whole g.L.Layout.serves g.L.Layout.admitted g.L.Layout.act_of key.procs key.callers.items in (
       c.requires.ours.0,
       c.requires.row.0,
-      ap (λ (m : Seated _). m.1) c.requires.row.1,
+      ap (λ (m : Seated _ _ _). m.1) c.requires.row.1,
       (let wide = c.requires.ours.1 in omega (arith, wide)),
       joins_back F key.layouts.items (length key.callers.items) _ (pass_in c.args.seat.now.me.0) c.args.seat.now.me c.requires.pass _ (row_named c.args.named.me.0) c.args.named.me c.requires.row.1
           0 (omega arith) c.requires.few (λ more. absurd (omega (arith, more))),

@@ -17,7 +17,7 @@ join_seat-requires g c =
     let F = layouts_on g.L.Kind.object g.L.Layout.tag_of g.L.Layout.ways g.L.Layout.whole g.L.Layout.serves g.L.Layout.admitted g.L.Layout.act_of key.procs key.callers.items in (
       c.requires.ours.0,
       c.requires.row.0,
-      ap (λ (m : Seated _). m.1) c.requires.row.1,
+      ap (λ (m : Seated _ _ _). m.1) c.requires.row.1,
       (let wide = c.requires.ours.1 in omega (arith, wide)),
       joins_in F key.layouts.items (length key.callers.items) _ (pass_in c.args.seat.now.me.0) c.args.seat.now.me c.requires.pass _ (row_named c.args.named.me.0) c.args.named.me c.requires.row.1
           c.requires.few,

@@ -11,5 +11,5 @@ split_seat-own-requires g c =
     let F = layouts_on g.L.Kind.object g.L.Layout.tag_of g.L.Layout.ways g.L.Layout.whole g.L.Layout.serves g.L.Layout.admitted g.L.Layout.act_of key.procs key.callers.items in (
       c.requires.ours.0,
       (let wide = c.requires.ours.1 in omega (arith, wide)),
-      receipt_splits F key.layouts.items c.args.seat.now.id (pass_in me.0) _ me.0 (ap (λ (m : Seated _). m.0) c.requires.seated),
+      receipt_splits F key.layouts.items c.args.seat.now.id (pass_in me.0) _ me.0 (ap (λ (m : Seated _ _ _). m.0) c.requires.seated),
     )

@@ -12,8 +12,8 @@ join_seat-requires g c =
     let F = layouts_on g.L.Kind.object g.L.Layout.tag_of g.L.Layout.ways g.L.Layout.whole g.L.Layout.serves g.L.Layout.admitted g.L.Layout.act_of key.procs key.callers.items in (
       c.requires.here.ours,
       c.requires.theirs,
-      ap (λ (m : Seated _). m.1) c.requires.told,
+      ap (λ (m : Seated _ _ _). m.1) c.requires.told,
       (let wide = c.requires.here.many in omega (arith, wide)),
       skip_joins F c.requires.here.laws key.layouts.items (length key.callers.items) c.args.seat.now.id c.args.other.id (stamp_in told.0) (pass_in me.0) me.0 told.0
-          (ap (λ (m : Seated _). m.0) c.requires.here.alone) (ap (λ (m : Seated _). m.0) c.requires.told),
+          (ap (λ (m : Seated _ _ _). m.0) c.requires.here.alone) (ap (λ (m : Seated _ _ _). m.0) c.requires.told),
     )

@@ -31,7 +31,7 @@ load-requires-2 g c =
     let e = c.load.ensures in let x = c.exchange.ensures in let v = pass_in c.args.seat.now.me.0 in let t = c.requires.ours in
     let slots : ℕ = c.args.board.now.shared.table_id.slots in let one = held_one c.args.held.now c.requires.may in let few = one.2.cell in
     let out = reached_seat c.args.cell v c.args.seat.now.me t.alone few c.lock_word-word.result c.lock_word-word.ensures c.load.new.seat.me e.2 in
-    let held = ap {B = Seated _} (λ content. (c.load.new.seat.me.0, (c.slot_of-slot.result, content) ∷ rest c.load.new.seat.me.1)) (c.take.ensures.value ∙ one.1) in
+    let held = ap {B = Seated _ _ _} (λ content. (c.load.new.seat.me.0, (c.slot_of-slot.result, content) ∷ rest c.load.new.seat.me.1)) (c.take.ensures.value ∙ one.1) in
     let now = exchanged c.load.new.seat.me (reached c.args.cell v) (slot_of c.args.cell) None out c.slot_of-slot.result c.slot_of-slot.ensures
     c.exchange.new.seat.me (Some one.0) (x.3 ∙ held) in (
       x.0 ∙ e.0 ∙ t.ours,
@@ -46,7 +46,7 @@ returns-clause-put g c =
     let e = c.load.ensures in let x = c.exchange.ensures in let v = pass_in c.args.seat.now.me.0 in let t = c.requires.ours in let n : ℕ = c.args.cell in
     let one = held_one c.args.held.now c.requires.may in let few = one.2.cell in let after = c.load-2.new.seat in
     let out = reached_seat n v c.args.seat.now.me t.alone few c.lock_word-word.result c.lock_word-word.ensures c.load.new.seat.me e.2 in
-    let held = ap {B = Seated _} (λ content. (c.load.new.seat.me.0, (c.slot_of-slot.result, content) ∷ rest c.load.new.seat.me.1)) (c.take.ensures.value ∙ one.1) in
+    let held = ap {B = Seated _ _ _} (λ content. (c.load.new.seat.me.0, (c.slot_of-slot.result, content) ∷ rest c.load.new.seat.me.1)) (c.take.ensures.value ∙ one.1) in
     let now = exchanged c.load.new.seat.me (reached n v) (slot_of n) None out c.slot_of-slot.result c.slot_of-slot.ensures c.exchange.new.seat.me (Some one.0) (x.3 ∙ held) in
     let alone = put_seated n v c.args.seat.now.me t.alone few c.lock_word-word.result c.lock_word-word.ensures one.0 (reached n v) (slot_of n)
     c.exchange.new.seat.me after.me now c.load-2.ensures.2 in
@@ -56,5 +56,5 @@ returns-clause-put g c =
       alone = alone;
       out = puts_out _ t.laws _ c.args.seat.now.id n v c.requires.idle one.0 one.2;
       back = puts_back _ t.laws _ c.args.seat.now.id n v c.requires.idle one.0 one.2 (pass_in after.me.0)
-          (sym (ap (λ (m : Seated _). pass_in m.0) alone));
+          (sym (ap (λ (m : Seated _ _ _). pass_in m.0) alone));
     })

@@ -70,7 +70,7 @@ returns-clause-taken g c =
       alone = alone;
       out = takes_out _ t.laws _ c.args.seat.now.id n v c.requires.idle c.requires.may u.0;
       back = takes_back _ t.laws _ c.args.seat.now.id n v c.requires.idle u.0 (u.1 ∙ cell_at_word n few c.lock_word-word.result c.lock_word-word.ensures) (pass_in after.me.0)
-          (sym (ap (λ (m : Seated _). pass_in m.0) alone));
+          (sym (ap (λ (m : Seated _ _ _). pass_in m.0) alone));
     })
 
 pub returns-clause-whole : goal.returns-clause-whole
@@ -84,4 +84,4 @@ returns-clause-whole g c =
     c.exchange.new.seat.me after.me now (c.load-2.ensures.2).0 in
     held_now _ c.exchange.result u.0 (sym found)
     (taken_whole _ t.laws _ after.id n v c.requires.idle u.0 (u.1 ∙ cell_at_word n few c.lock_word-word.result c.lock_word-word.ensures) (pass_in after.me.0)
-    (sym (ap (λ (m : Seated _). pass_in m.0) alone)))
+    (sym (ap (λ (m : Seated _ _ _). pass_in m.0) alone)))

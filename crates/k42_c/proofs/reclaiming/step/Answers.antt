@@ -13,6 +13,8 @@ use Rattle.k42_quiesce.specs.declared.steps.Held.TheVariants.{Left, RoleHeld}
 use Rattle.k42_runtime.specs.Systems.{SystemLayout, SystemPart, SystemPass, any_layouts, layouts_in}
 use Rattle.k42_c.proofs.Reclaimed.{HasTried, found_role, freed_rests, goes_on, granted_all, has_role_now, none_left}
 use Rattle.k42_c.proofs.reclaiming.step.Goals as goal
+use Rattle.k42_kinds.specs.declared.operation.Op.{Op}
+use Rattle.k42_kinds.specs.declared.operation.Reply.{Reply}
 
 pub invariant_of-result-in-Again-Left : goal.invariant_of-result-in-Again-Left
 invariant_of-result-in-Again-Left c =
@@ -63,12 +65,12 @@ returns-in-Quiet c =
       reclaimed = record {
         seat = c.reclaim-rows.ensures.same.seat ∙ ap (λ (p : SystemPass). p.seat) again ∙ c.step.ensures.same.seat ∙ ap (λ (p : SystemPass). p.seat) lent;
         keep = c.reclaim-rows.ensures.same.keep ∙ ap (λ (p : SystemPass). p.keep) again ∙ c.step.ensures.same.keep ∙ ap (λ (p : SystemPass). p.keep) lent;
-        number = ap (λ (v : PassView SystemPart). v.number) knows ∙ has.number;
-        drawn = ap (λ (v : PassView SystemPart). v.taker) knows ∙ has.taker;
+        number = ap (λ (v : PassView SystemPart Op Reply). v.number) knows ∙ has.number;
+        drawn = ap (λ (v : PassView SystemPart Op Reply). v.taker) knows ∙ has.taker;
         none = none_left grace old.view mid.view new.view has knows;
         log = mid.view.log;
         grows = has.grows;
-        graces = ap (λ (v : PassView SystemPart). v.graces) knows ∙ has.graces;
+        graces = ap (λ (v : PassView SystemPart Op Reply). v.graces) knows ∙ has.graces;
         freed = subst (λ (noted : List (Option ℕ)). Frees system.sys.procs (length system.sys.layouts) noted mid.view.log new.view.log c.reclaim-rows.result) has.noted freed;
         rows = subst (λ (rows : List Row). Always (layouts_in system) system.sys.layouts new.seat new.view (AreRowsFreed rows)) rows swept;
       };

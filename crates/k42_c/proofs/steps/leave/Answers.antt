@@ -7,10 +7,12 @@ use Rattle.k42_c.specs.declared.seat.Seat.{Seat}
 use Rattle.k42_c.specs.declared.seat.Seat.TheVariants.{Works}
 use Rattle.k42_c.proofs.Stepped.{left}
 use Rattle.k42_c.proofs.steps.leave.Goals as goal
+use Rattle.k42_kinds.specs.declared.operation.Op.{Op}
+use Rattle.k42_kinds.specs.declared.operation.Reply.{Reply}
 
 pub returns : goal.returns
 returns c =
     let was : c.args.seat.now ≡ Works c.in-Works-replace.works = search rules in
     let lent : c.deref_mut.result.now ≡ c.in-Works-replace.works.pass.value = search rules in
     subst (λ (to : Seat). HasLeft c.args.seat.now to (Ok tt)) (sym c.fill.ensures)
-    (left _ _ _ was record { home = refl; same = search rules; drawn = ap (λ (v : PassView SystemPart). v.taker) c.leave.ensures.knows ∙ ap (λ (p : SystemPass). p.view.taker) lent })
+    (left _ _ _ was record { home = refl; same = search rules; drawn = ap (λ (v : PassView SystemPart Op Reply). v.taker) c.leave.ensures.knows ∙ ap (λ (p : SystemPass). p.view.taker) lent })

@@ -1,4 +1,6 @@
 use Rattle.std.proofs.Common.{◌≡◌, List, refl, sym, ap, ◌∙◌, subst}
+use Rattle.k42_kinds.specs.declared.operation.Op.{Op}
+use Rattle.k42_kinds.specs.declared.operation.Reply.{Reply}
 use Rattle.k42_kinds.specs.declared.entry.Entry.{Entry}
 use Rattle.script_text.specs.declared.script.Script.{Script}
 use Rattle.load_totals.specs.Loads.{summary_due, summary_of, tallied}
@@ -17,7 +19,7 @@ returns g c =
       due = record {
         history = history;
         ran = subst (λ (s : Script). IsRun s history) c.in_ok-script.ensures.script ran;
-        sums = ap (λ (entries : List Entry). summary_of (tallied entries)) (sym c.in_ok-reader.ensures) ∙ sym c.in_ok-sums.ensures.exact ∙ due;
+        sums = ap (λ (entries : List (Entry Op Reply)). summary_of (tallied entries)) (sym c.in_ok-reader.ensures) ∙ sym c.in_ok-sums.ensures.exact ∙ due;
         text = c.in_ok-load_line.ensures ∙ ap (load_line c.args.steps) due;
         held = refl;
       };

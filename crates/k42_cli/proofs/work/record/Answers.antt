@@ -1,4 +1,6 @@
 use Rattle.std.proofs.Common.{List, All, refl, sym, ap, ◌∙◌, subst}
+use Rattle.k42_kinds.specs.declared.operation.Op.{Op}
+use Rattle.k42_kinds.specs.declared.operation.Reply.{Reply}
 use Rattle.k42_kinds.specs.declared.entry.Entry.{Entry}
 use Rattle.record_text.specs.Histories.{HasLine, record_of, history_text}
 use Rattle.record_text.specs.Spelling.{HasText}
@@ -14,7 +16,7 @@ pub print_history-requires-clause-spelled : goal.print_history-requires-clause-s
 print_history-requires-clause-spelled g c =
     let script = c.args.script.now in
     let version = c.version-version.result in
-    subst (λ (entries : List Entry). HasText script (record_of script entries version)) (sym c.in_ok-reader.ensures) (c.in_ok-history.ensures.spelled version c.version-version.ensures.known)
+    subst (λ (entries : List (Entry Op Reply)). HasText script (record_of script entries version)) (sym c.in_ok-reader.ensures) (c.in_ok-history.ensures.spelled version c.version-version.ensures.known)
 
 pub returns : goal.returns
 returns g c =
@@ -26,7 +28,7 @@ returns g c =
       ran = c.in_ok-history.ensures;
       text =
           c.in_ok-text.ensures
-          ∙ ap (λ (entries : List Entry). history_text script entries c.version-version.result) c.in_ok-reader.ensures
+          ∙ ap (λ (entries : List (Entry Op Reply)). history_text script entries c.version-version.result) c.in_ok-reader.ensures
           ∙ ap (history_text script history.entries) c.version-version.ensures.number;
       held = refl;
     }

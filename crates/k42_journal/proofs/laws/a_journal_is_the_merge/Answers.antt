@@ -2,4 +2,4 @@ use Rattle.k42_journal.proofs.Merges.{merges}
 use Rattle.k42_journal.proofs.laws.a_journal_is_the_merge.Goals as goal
 
 pub returns : goal.returns
-returns c = merges
+returns g c = merges

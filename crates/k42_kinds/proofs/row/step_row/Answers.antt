@@ -1,6 +1,5 @@
 use Rattle.std.proofs.Common.{◌≡◌, ℕ, ◌<◌, ◌≤◌, IsTrue, List, sym, ◌∙◌, subst, arith, Some}
 use Rattle.std.specs.Prelude.{slice_index_or}
-use Rattle.k42_kinds.specs.declared.operation.Op.{Op}
 use Rattle.k42_kinds.specs.declared.entry.Reach.{Reach}
 use Rattle.k42_kinds.specs.declared.entry.Reach.TheVariants.{One}
 use Rattle.k42_kinds.specs.Rows.{cells_of, part_at}
@@ -9,7 +8,7 @@ use Rattle.k42_kinds.proofs.RowSteps.{cell_there, part_there, whole_after_one, s
 use Rattle.k42_kinds.proofs.row.step_row.Given as given
 use Rattle.k42_kinds.proofs.row.step_row.Goals as goal
 
-module _ (g : given.Over) (layout : g.row.L.Denot) (procs proc : ℕ) (parts : List g.row.L-Part.Denot) (op : Op) (cell : ℕ)
+module _ (g : given.Over) (layout : g.row.L.Denot) (procs proc : ℕ) (parts : List g.row.L-Part.Denot) (op : g.row.L-Op.Denot) (cell : ℕ)
     (reach : (g.L.Layout.ways layout).reach procs op proc ≡ One cell) (known : g.L.Layout.tag_of layout ≤ 2) (in_range : proc < procs)
     (takes : IsTrue ((g.L.Kind.object layout).takes op)) (whole : g.L.Layout.whole layout procs parts) where
   -- the part that is stepped is the one at the cell

@@ -11,12 +11,12 @@ returns-clause-begun g c =
     let mid = c.begin_step-found.new.pass.view in let new = c.match-swap.pass.view in
     let last : new.last ≡ mid.last =
     elim c.match-swap.branch [
-      | in-Refused w ↦ ap (λ (p : PassSeen _). p.view.last) w.pass-is ∙ clear_last _ _ _ _ w.clear_step.ensures.takes.knows
-      | in_default w ↦ ap (λ (p : PassSeen _). p.view.last) w.pass-is
+      | in-Refused w ↦ ap (λ (p : PassSeen _ _ _). p.view.last) w.pass-is ∙ clear_last _ _ _ _ w.clear_step.ensures.takes.knows
+      | in_default w ↦ ap (λ (p : PassSeen _ _ _). p.view.last) w.pass-is
     ] in
     let extends : Extends mid.log new.log =
     elim c.match-swap.branch [
-      | in-Refused w ↦ extends_as (ap (λ (p : PassSeen _). p.view.log) w.pass-is) (clear_extends _ _ _ _ w.clear_step.ensures.takes.knows)
-      | in_default w ↦ extends_as (ap (λ (p : PassSeen _). p.view.log) w.pass-is) (extends_same mid.log)
+      | in-Refused w ↦ extends_as (ap (λ (p : PassSeen _ _ _). p.view.log) w.pass-is) (clear_extends _ _ _ _ w.clear_step.ensures.takes.knows)
+      | in_default w ↦ extends_as (ap (λ (p : PassSeen _ _ _). p.view.log) w.pass-is) (extends_same mid.log)
     ] in
     tried _ _ _ _ _ _ _ c.begin_step-found.ensures.takes new last extends

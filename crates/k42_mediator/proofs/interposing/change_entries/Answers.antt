@@ -8,7 +8,7 @@ pub entry_step-requires-after_bounds : goal.entry_step-requires-after_bounds
 entry_step-requires-after_bounds g c κs within = record {
   ours = c.loop-proc.invariant.0.table ∙ c.requires.ours.table;
   may =
-      ap (λ (v : PassView _). next_entry v.visitor.swap) c.loop-proc.invariant.2.knows
+      ap (λ (v : PassView _ _ _). next_entry v.visitor.swap) c.loop-proc.invariant.2.knows
       ∙ next_stage c.procs-procs.result c.args.pass.now.view.visitor.swap c.loop-proc.proc c.loop-proc-test.true c.requires.first;
 }
 

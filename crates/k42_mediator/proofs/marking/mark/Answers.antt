@@ -60,7 +60,7 @@ draw_mark-requires-clause-may g c κs within =
     let told : answer_in (word_begun v.last) ≡ Some answer = ap answer_in (sym c.last_of-begin.ensures.word) ∙ c.answer_over-answer.ensures in
     let taken : ComesTo v (taken_view cell (locked_view n 0 v)) c.take-cell.new.pass.view =
     comes_taken n _ cell v _ _ c.if-found-ne0.false c.lock-found.ensures.takes.knows c.take-cell.ensures.moved.back.knows in
-    subst (λ (w : PassView _). MayDrawMark cell c.args.act answer w) (sym taken.knows)
+    subst (λ (w : PassView _ _ _). MayDrawMark cell c.args.act answer w) (sym taken.knows)
     (may_mark v n cell c.take-cell.ensures.number c.args.act answer c.requires.may.act_is c.take-cell.new.pass.view.log (c.requires.may.found ∙ told)
     (over_told (word_begun v.last) answer c.requires.may.over told) named c.requires.may.few)
 
@@ -72,10 +72,10 @@ give_next-requires-clause-ready g c κs within =
     let taken : ComesTo v (taken_view cell (locked_view n 0 v)) c.take-cell.new.pass.view =
     comes_taken n _ cell v _ _ c.if-found-ne0.false c.lock-found.ensures.takes.knows c.take-cell.ensures.moved.back.knows in
     let drawn = comes_drawn v n cell number c.args.act answer act_is (lock_word cell.number) c.take-cell.new.pass.view c.draw_mark.new.pass.view taken c.draw_mark.ensures.drawn.knows in
-    subst (λ (w : PassView _). MayPutBack F c.args.sys.now.layouts id w c.draw_mark.new.cell) (sym drawn.knows)
+    subst (λ (w : PassView _ _ _). MayPutBack F c.args.sys.now.layouts id w c.draw_mark.new.cell) (sym drawn.knows)
     (mark_ready v n cell number c.args.act answer act_is F c.layouts_are_lawful.ensures c.args.sys.now.layouts id c.draw_mark.new.pass.view.log c.draw_mark.new.cell
     (subst (λ m. m < CELLS) (sym c.cell_number-number.ensures) (cell_small c.last_of-begin.result.object c.incarnation_in.result c.last_of-begin.ensures.few))
-    (subst (λ (w : PassView _). IsTold w.notes cell c.draw_mark.new.cell) drawn.knows c.draw_mark.ensures.told))
+    (subst (λ (w : PassView _ _ _). IsTold w.notes cell c.draw_mark.new.cell) drawn.knows c.draw_mark.ensures.told))
 
 pub returns : goal.returns
 returns g c =
@@ -94,7 +94,7 @@ returns g c =
       next =
           subst (λ (m : ℕ). IsNext v (object_begun v.last) (incarnation_in (word_begun v.last)) m c.args.act answer (entry_mark (taken_view cell (locked_view n 0 v)) cell.number c.args.act answer)) named
           (marks_next v n cell number c.args.act answer act_is
-          (subst (λ (u : PassView _). last_stamp u.taker.mine < stamp_next u (cell.number ∷ [])) taken.knows
+          (subst (λ (u : PassView _ _ _). last_stamp u.taker.mine < stamp_next u (cell.number ∷ [])) taken.knows
           (later_stamp c.take-cell.new.pass.view (cell.number ∷ []) c.draw_mark.result c.draw_mark.ensures.stamp c.draw_mark.ensures.later))
           (object_begun v.last) (incarnation_in (word_begun v.last)) refl refl);
       comes =

@@ -26,7 +26,7 @@ returns-clause-comes g c =
     let none : c.loop-cell.cells.items ≡ [] = nothing_left c.loop-cell.cells.items (sym c.loop-cell.cells.ok.0 ∙ c.in_default.ensures.cases.0) in
     record {
       knows =
-          sym (released_none view c.loop-cell.invariant.back) ∙ ap (λ (xs : List (Content _)). released (numbers_of xs) view) (sym none)
+          sym (released_none view c.loop-cell.invariant.back) ∙ ap (λ (xs : List (Content _ _ _)). released (numbers_of xs) view) (sym none)
           ∙ c.loop-cell.invariant.released_is;
       log = c.loop-cell.invariant.log;
     }

@@ -28,8 +28,8 @@ unlock-requires-after_bounds g c κs within =
       ours = c.put.ensures.same.table ∙ c.requires.ours;
       may = record {
         cell = subst (λ m. m < CELLS) (sym c.number-number.ensures) ready.cell;
-        held = ap (λ (w : PassView _). names w.taker.held n) knows ∙ ap (names v.taker.held) c.number-number.ensures ∙ ready.holds;
-        home = ap (λ (w : PassView _). names (cells_noted w.notes) n) knows ∙ none_remains cell_in n v.notes;
+        held = ap (λ (w : PassView _ _ _). names w.taker.held n) knows ∙ ap (names v.taker.held) c.number-number.ensures ∙ ready.holds;
+        home = ap (λ (w : PassView _ _ _). names (cells_noted w.notes) n) knows ∙ none_remains cell_in n v.notes;
       };
     }
 

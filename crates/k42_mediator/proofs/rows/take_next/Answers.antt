@@ -37,7 +37,7 @@ returns-clause-held g c =
     let free : c.lock.result ≡ 0 = finds.free (inl (record { there = small n; moves = c.requires.moved.moves })) in
     let comes : ComesTo v (taken_view cell (locked_view n 0 v)) c.take-cell.new.pass.view =
     comes_taken n _ cell v _ _ free c.lock.ensures.takes.knows c.take-cell.ensures.moved.back.knows in
-    ap (λ (w : PassView _). w.taker.held) comes.knows ∙ ap (λ held. held ++ n ∷ []) c.requires.held
+    ap (λ (w : PassView _ _ _). w.taker.held) comes.knows ∙ ap (λ held. held ++ n ∷ []) c.requires.held
     ∙ sym (ap numbers_of c.push_reserved.ensures.items ∙ numbers_more cells (cell ∷ []) ∙ ap (λ m. numbers_of cells ++ m ∷ []) c.take-cell.ensures.number)
 
 pub returns-clause-taken : goal.returns-clause-taken
@@ -49,7 +49,7 @@ returns-clause-taken g c =
     comes_taken n _ cell v _ _ free c.lock.ensures.takes.knows c.take-cell.ensures.moved.back.knows in
     let another = ap (names (numbers_of cells)) c.take-cell.ensures.number ∙ c.requires.another in
     subst (λ xs. AreTaken c.take-cell.new.pass.view.notes xs) (sym c.push_reserved.ensures.items)
-    (subst (λ ns. AreTaken ns (cells ++ cell ∷ [])) (sym (ap (λ (w : PassView _). w.notes) comes.knows)) (taken_more cell v.notes cells another c.requires.taken))
+    (subst (λ ns. AreTaken ns (cells ++ cell ∷ [])) (sym (ap (λ (w : PassView _ _ _). w.notes) comes.knows)) (taken_more cell v.notes cells another c.requires.taken))
 
 pub returns-clause-released : goal.returns-clause-released
 returns-clause-released g c =

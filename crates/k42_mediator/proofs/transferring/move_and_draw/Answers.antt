@@ -55,7 +55,7 @@ move_state-requires-clause-whole g c κs within =
     c.requires.numbers c.requires.held c.requires.taken c.requires.rows c.declared.ensures.is c.with_tag-layout.ensures.same
     c.begun_layout.result c.with_tag-layout.ensures.tagged c.begun_layout.ensures.is in
     let value = c.as_mut_slice.ensures.value in
-    subst (λ (z : ℕ × List (Content _)). F.Whole layout z.0 (parts_from (F.ways_of layout) z.0 0 (take (cells_of (F.tag_of layout) z.0) z.1)))
+    subst (λ (z : ℕ × List (Content _ _ _)). F.Whole layout z.0 (parts_from (F.ways_of layout) z.0 0 (take (cells_of (F.tag_of layout) z.0) z.1)))
     (λ j. (sym is j, sym value j)) (whole F laws declared agrees v o i items layout has)
 
 pub returns-in_err-move_state-clause-numbers : goal.returns-in_err-move_state-clause-numbers
@@ -72,11 +72,11 @@ returns-in_err-move_state-clause-numbers g c =
     let cells = take c.args.cells.now.len (new ++ drop (length new) items) in
     let back : cells ≡ new = written_back new items c.args.cells.now.len (c.move_state.ensures.many ∙ ap length value) c.args.cells.now.ok.0 in
     let kept : AreKept (F.ways_of layout) F.procs (cells_of (F.tag_of layout) F.procs) 0 (take F.procs items) (take F.procs cells) =
-    subst (λ (z : ℕ × List (Content _) × List (Content _)). AreKept (F.ways_of layout) z.0 (cells_of (F.tag_of layout) z.0) 0 (take z.0 z.1) (take z.0 z.2))
+    subst (λ (z : ℕ × List (Content _ _ _) × List (Content _ _ _)). AreKept (F.ways_of layout) z.0 (cells_of (F.tag_of layout) z.0) 0 (take z.0 z.1) (take z.0 z.2))
     (λ j. (is j, value j, sym back j)) c.move_state.ensures.kept in
     let front = from_numbers F laws declared agrees v o i items layout has cells kept ∙ sym (old_numbers F laws declared agrees v o i items layout has) in
     let again : drop F.procs cells ≡ drop F.procs items =
-    subst (λ (z : ℕ × List (Content _) × List (Content _)). drop z.0 z.2 ≡ drop z.0 z.1) (λ j. (is j, value j, sym back j)) c.in_err-move_state.ensures.memory in
+    subst (λ (z : ℕ × List (Content _ _ _) × List (Content _ _ _)). drop z.0 z.2 ≡ drop z.0 z.1) (λ j. (is j, value j, sym back j)) c.in_err-move_state.ensures.memory in
     numbers_same F.procs items cells front (ap numbers_of again)
 
 pub returns-in_err-move_state-clause-ready : goal.returns-in_err-move_state-clause-ready
@@ -93,11 +93,11 @@ returns-in_err-move_state-clause-ready g c =
     let cells = take c.args.cells.now.len (new ++ drop (length new) items) in
     let back : cells ≡ new = written_back new items c.args.cells.now.len (c.move_state.ensures.many ∙ ap length value) c.args.cells.now.ok.0 in
     let kept : AreKept (F.ways_of layout) F.procs (cells_of (F.tag_of layout) F.procs) 0 (take F.procs items) (take F.procs cells) =
-    subst (λ (z : ℕ × List (Content _) × List (Content _)). AreKept (F.ways_of layout) z.0 (cells_of (F.tag_of layout) z.0) 0 (take z.0 z.1) (take z.0 z.2))
+    subst (λ (z : ℕ × List (Content _ _ _) × List (Content _ _ _)). AreKept (F.ways_of layout) z.0 (cells_of (F.tag_of layout) z.0) 0 (take z.0 z.1) (take z.0 z.2))
     (λ j. (is j, value j, sym back j)) c.move_state.ensures.kept in
     let front = from_numbers F laws declared agrees v o i items layout has cells kept ∙ sym (old_numbers F laws declared agrees v o i items layout has) in
     let again : drop F.procs cells ≡ drop F.procs items =
-    subst (λ (z : ℕ × List (Content _) × List (Content _)). drop z.0 z.2 ≡ drop z.0 z.1) (λ j. (is j, value j, sym back j)) c.in_err-move_state.ensures.memory in
+    subst (λ (z : ℕ × List (Content _ _ _) × List (Content _ _ _)). drop z.0 z.2 ≡ drop z.0 z.1) (λ j. (is j, value j, sym back j)) c.in_err-move_state.ensures.memory in
     ready_again F laws declared agrees v o i items layout has cells kept c.args.pass.now.seat again
 
 pub draw_done-requires-clause-may : goal.draw_done-requires-clause-may
@@ -114,13 +114,13 @@ draw_done-requires-clause-may g c κs within =
     let cells = take c.args.cells.now.len (new ++ drop (length new) items) in
     let back : cells ≡ new = written_back new items c.args.cells.now.len (c.move_state.ensures.many ∙ ap length value) c.args.cells.now.ok.0 in
     let kept : AreKept (F.ways_of layout) F.procs (cells_of (F.tag_of layout) F.procs) 0 (take F.procs items) (take F.procs cells) =
-    subst (λ (z : ℕ × List (Content _) × List (Content _)). AreKept (F.ways_of layout) z.0 (cells_of (F.tag_of layout) z.0) 0 (take z.0 z.1) (take z.0 z.2))
+    subst (λ (z : ℕ × List (Content _ _ _) × List (Content _ _ _)). AreKept (F.ways_of layout) z.0 (cells_of (F.tag_of layout) z.0) 0 (take z.0 z.1) (take z.0 z.2))
     (λ j. (is j, value j, sym back j)) c.move_state.ensures.kept in
     let front = from_numbers F laws declared agrees v o i items layout has cells kept ∙ sym (old_numbers F laws declared agrees v o i items layout has) in
     let full : drop F.procs cells
     ≡ filled ((F.ways_of c.args.to.now).imported F.procs (F.admitted c.args.to.now ((F.ways_of layout).combine (parts_from (F.ways_of layout) F.procs 0 (take (cells_of (F.tag_of layout) F.procs) items)))))
     (drop F.procs items) =
-    subst (λ (z : ℕ × List (Content _) × List (Content _)). drop z.0 z.2
+    subst (λ (z : ℕ × List (Content _ _ _) × List (Content _ _ _)). drop z.0 z.2
     ≡ filled ((F.ways_of c.args.to.now).imported z.0 (F.admitted c.args.to.now ((F.ways_of layout).combine (parts_from (F.ways_of layout) z.0 0 (take (cells_of (F.tag_of layout) z.0) z.1)))))
     (drop z.0 z.1)) (λ j. (is j, value j, sym back j)) c.in_ok-move_state.ensures.filled in
     let numbers : numbers_of cells ≡ numbers_of items = numbers_same F.procs items cells front (ap numbers_of full ∙ filled_numbers _ (drop F.procs items)) in
@@ -141,13 +141,13 @@ returns-clause-numbers g c =
     let cells = take c.args.cells.now.len (new ++ drop (length new) items) in
     let back : cells ≡ new = written_back new items c.args.cells.now.len (c.move_state.ensures.many ∙ ap length value) c.args.cells.now.ok.0 in
     let kept : AreKept (F.ways_of layout) F.procs (cells_of (F.tag_of layout) F.procs) 0 (take F.procs items) (take F.procs cells) =
-    subst (λ (z : ℕ × List (Content _) × List (Content _)). AreKept (F.ways_of layout) z.0 (cells_of (F.tag_of layout) z.0) 0 (take z.0 z.1) (take z.0 z.2))
+    subst (λ (z : ℕ × List (Content _ _ _) × List (Content _ _ _)). AreKept (F.ways_of layout) z.0 (cells_of (F.tag_of layout) z.0) 0 (take z.0 z.1) (take z.0 z.2))
     (λ j. (is j, value j, sym back j)) c.move_state.ensures.kept in
     let front = from_numbers F laws declared agrees v o i items layout has cells kept ∙ sym (old_numbers F laws declared agrees v o i items layout has) in
     let full : drop F.procs cells
     ≡ filled ((F.ways_of c.args.to.now).imported F.procs (F.admitted c.args.to.now ((F.ways_of layout).combine (parts_from (F.ways_of layout) F.procs 0 (take (cells_of (F.tag_of layout) F.procs) items)))))
     (drop F.procs items) =
-    subst (λ (z : ℕ × List (Content _) × List (Content _)). drop z.0 z.2
+    subst (λ (z : ℕ × List (Content _ _ _) × List (Content _ _ _)). drop z.0 z.2
     ≡ filled ((F.ways_of c.args.to.now).imported z.0 (F.admitted c.args.to.now ((F.ways_of layout).combine (parts_from (F.ways_of layout) z.0 0 (take (cells_of (F.tag_of layout) z.0) z.1)))))
     (drop z.0 z.1)) (λ j. (is j, value j, sym back j)) c.in_ok-move_state.ensures.filled in
     let numbers : numbers_of cells ≡ numbers_of items = numbers_same F.procs items cells front (ap numbers_of full ∙ filled_numbers _ (drop F.procs items)) in
@@ -167,13 +167,13 @@ returns-clause-ready g c =
     let cells = take c.args.cells.now.len (new ++ drop (length new) items) in
     let back : cells ≡ new = written_back new items c.args.cells.now.len (c.move_state.ensures.many ∙ ap length value) c.args.cells.now.ok.0 in
     let kept : AreKept (F.ways_of layout) F.procs (cells_of (F.tag_of layout) F.procs) 0 (take F.procs items) (take F.procs cells) =
-    subst (λ (z : ℕ × List (Content _) × List (Content _)). AreKept (F.ways_of layout) z.0 (cells_of (F.tag_of layout) z.0) 0 (take z.0 z.1) (take z.0 z.2))
+    subst (λ (z : ℕ × List (Content _ _ _) × List (Content _ _ _)). AreKept (F.ways_of layout) z.0 (cells_of (F.tag_of layout) z.0) 0 (take z.0 z.1) (take z.0 z.2))
     (λ j. (is j, value j, sym back j)) c.move_state.ensures.kept in
     let front = from_numbers F laws declared agrees v o i items layout has cells kept ∙ sym (old_numbers F laws declared agrees v o i items layout has) in
     let full : drop F.procs cells
     ≡ filled ((F.ways_of c.args.to.now).imported F.procs (F.admitted c.args.to.now ((F.ways_of layout).combine (parts_from (F.ways_of layout) F.procs 0 (take (cells_of (F.tag_of layout) F.procs) items)))))
     (drop F.procs items) =
-    subst (λ (z : ℕ × List (Content _) × List (Content _)). drop z.0 z.2
+    subst (λ (z : ℕ × List (Content _ _ _) × List (Content _ _ _)). drop z.0 z.2
     ≡ filled ((F.ways_of c.args.to.now).imported z.0 (F.admitted c.args.to.now ((F.ways_of layout).combine (parts_from (F.ways_of layout) z.0 0 (take (cells_of (F.tag_of layout) z.0) z.1)))))
     (drop z.0 z.1)) (λ j. (is j, value j, sym back j)) c.in_ok-move_state.ensures.filled in
     let numbers : numbers_of cells ≡ numbers_of items = numbers_same F.procs items cells front (ap numbers_of full ∙ filled_numbers _ (drop F.procs items)) in
@@ -182,9 +182,9 @@ returns-clause-ready g c =
     let log = step_at steps.Draw (lock_word (first_cell (numbers_of cells))) 0 ∷ v.log in
     let knows : c.draw_done.new.pass.view ≡ with_log log (handed_at (take F.procs cells) (drop F.procs cells) entry tag v) =
     c.draw_done.ensures.drawn.knows in
-    subst (λ (w : PassView _). MayPutAllBack F declared c.draw_done.new.pass.seat w c.draw_done.new.cells.items) (sym knows)
+    subst (λ (w : PassView _ _ _). MayPutAllBack F declared c.draw_done.new.pass.seat w c.draw_done.new.cells.items) (sym knows)
     (ready_handed F laws declared agrees v o i items layout has cells numbers entry tag log c.draw_done.new.pass.seat c.draw_done.new.cells.items
-    (subst (λ (w : PassView _). AreTold w.notes cells c.draw_done.new.cells.items) knows c.draw_done.ensures.told))
+    (subst (λ (w : PassView _ _ _). AreTold w.notes cells c.draw_done.new.cells.items) knows c.draw_done.ensures.told))
 
 pub returns-clause-handed : goal.returns-clause-handed
 returns-clause-handed g c =
@@ -200,13 +200,13 @@ returns-clause-handed g c =
     let cells = take c.args.cells.now.len (new ++ drop (length new) items) in
     let back : cells ≡ new = written_back new items c.args.cells.now.len (c.move_state.ensures.many ∙ ap length value) c.args.cells.now.ok.0 in
     let kept : AreKept (F.ways_of layout) F.procs (cells_of (F.tag_of layout) F.procs) 0 (take F.procs items) (take F.procs cells) =
-    subst (λ (z : ℕ × List (Content _) × List (Content _)). AreKept (F.ways_of layout) z.0 (cells_of (F.tag_of layout) z.0) 0 (take z.0 z.1) (take z.0 z.2))
+    subst (λ (z : ℕ × List (Content _ _ _) × List (Content _ _ _)). AreKept (F.ways_of layout) z.0 (cells_of (F.tag_of layout) z.0) 0 (take z.0 z.1) (take z.0 z.2))
     (λ j. (is j, value j, sym back j)) c.move_state.ensures.kept in
     let front = from_numbers F laws declared agrees v o i items layout has cells kept ∙ sym (old_numbers F laws declared agrees v o i items layout has) in
     let full : drop F.procs cells
     ≡ filled ((F.ways_of c.args.to.now).imported F.procs (F.admitted c.args.to.now ((F.ways_of layout).combine (parts_from (F.ways_of layout) F.procs 0 (take (cells_of (F.tag_of layout) F.procs) items)))))
     (drop F.procs items) =
-    subst (λ (z : ℕ × List (Content _) × List (Content _)). drop z.0 z.2
+    subst (λ (z : ℕ × List (Content _ _ _) × List (Content _ _ _)). drop z.0 z.2
     ≡ filled ((F.ways_of c.args.to.now).imported z.0 (F.admitted c.args.to.now ((F.ways_of layout).combine (parts_from (F.ways_of layout) z.0 0 (take (cells_of (F.tag_of layout) z.0) z.1)))))
     (drop z.0 z.1)) (λ j. (is j, value j, sym back j)) c.in_ok-move_state.ensures.filled in
     let numbers : numbers_of cells ≡ numbers_of items = numbers_same F.procs items cells front (ap numbers_of full ∙ filled_numbers _ (drop F.procs items)) in
@@ -216,7 +216,7 @@ returns-clause-handed g c =
     let log = step_at steps.Draw (lock_word (first_cell (numbers_of cells))) 0 ∷ v.log in
     let knows : c.draw_done.new.pass.view ≡ with_log log (handed_at (take F.procs cells) (drop F.procs cells) entry tag v) = c.draw_done.ensures.drawn.knows in
     has_handed F laws declared agrees v o i items layout has cells numbers entry tag log act c.args.pass.now c.draw_done.new.pass refl knows
-    (extends_as (ap (λ (w : PassView _). w.log) knows) (extends_one (step_at steps.Draw (lock_word (first_cell (numbers_of cells))) 0) v.log refl))
+    (extends_as (ap (λ (w : PassView _ _ _). w.log) knows) (extends_one (step_at steps.Draw (lock_word (first_cell (numbers_of cells))) 0) v.log refl))
     c.draw_done.ensures.drawn.drawer
     (done_next F laws declared agrees v o i items layout has cells numbers entry tag log act
     (done_later F laws declared agrees v o i items layout has cells numbers entry tag log c.draw_done.result c.draw_done.ensures.stamp c.draw_done.ensures.later)

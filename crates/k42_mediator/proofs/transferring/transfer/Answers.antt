@@ -30,7 +30,7 @@ take_row-requires-2-clause-others g c κs within = λ place lt.
     let o : ℕ = c.moved_row-row.result.object in let i : ℕ = c.moved_row-row.result.incarnation in let procs : ℕ = c.args.sys.now.procs in
     let few : procs ≤ 8 = subst (λ p. p ≤ 8) c.procs-procs.ensures.is c.procs-procs.ensures.few in
     let first : numbers_of c.take_row.new.cells.items ≡ row_cells procs o i =
-    c.take_row.ensures.numbers ∙ ap (λ (xs : List (Content _)). numbers_of xs ++ row_cells procs o i) c.in_ok-cells.ensures.items in
+    c.take_row.ensures.numbers ∙ ap (λ (xs : List (Content _ _ _)). numbers_of xs ++ row_cells procs o i) c.in_ok-cells.ensures.items in
     ap (λ ns. names ns (cell_of o (i + 1) place)) first ∙ apart_row procs o i o (i + 1) place few lt (inr (λ same. omega (arith, same)))
 
 pub give_back-requires-clause-once : goal.give_back-requires-clause-once
@@ -38,7 +38,7 @@ give_back-requires-clause-once g c κs within =
     let o : ℕ = c.moved_row-row.result.object in let i : ℕ = c.moved_row-row.result.incarnation in let procs : ℕ = c.args.sys.now.procs in
     let few : procs ≤ 8 = subst (λ p. p ≤ 8) c.procs-procs.ensures.is c.procs-procs.ensures.few in
     let first : numbers_of c.take_row.new.cells.items ≡ row_cells procs o i =
-    c.take_row.ensures.numbers ∙ ap (λ (xs : List (Content _)). numbers_of xs ++ row_cells procs o i) c.in_ok-cells.ensures.items in
+    c.take_row.ensures.numbers ∙ ap (λ (xs : List (Content _ _ _)). numbers_of xs ++ row_cells procs o i) c.in_ok-cells.ensures.items in
     ap names_once (c.move_and_draw-done.ensures.numbers ∙ c.take_row-2.ensures.numbers ∙ ap (λ ns. ns ++ row_cells procs o (i + 1)) first) ∙ two_rows_once procs o i few
 
 pub returns-clause-done : goal.returns-clause-done
@@ -48,7 +48,7 @@ returns-clause-done g c =
     let took = same_twice p0 p1 p2 c.take_row.ensures.same c.take_row-2.ensures.same in
     let chain : released ns p2.view ≡ with_log p2.view.log (released [] p0.view) =
     c.take_row-2.ensures.released
-    ∙ ap (with_log p2.view.log) (c.take_row.ensures.released ∙ ap (λ (xs : List (Content _)). with_log p1.view.log (released (numbers_of xs) p0.view)) c.in_ok-cells.ensures.items) in
+    ∙ ap (with_log p2.view.log) (c.take_row.ensures.released ∙ ap (λ (xs : List (Content _ _ _)). with_log p1.view.log (released (numbers_of xs) p0.view)) c.in_ok-cells.ensures.items) in
     let since = extends_on c.take_row.ensures.log c.take_row-2.ensures.log in
     let back : ComesTo p3.view (released ns p3.view) p4.view =
     subst (λ ms. ComesTo p3.view (released ms p3.view) p4.view) c.move_and_draw-done.ensures.numbers c.give_back.ensures.comes in
@@ -64,7 +64,7 @@ returns-clause-memory g c =
     let took = same_twice p0 p1 p2 c.take_row.ensures.same c.take_row-2.ensures.same in
     let chain : released ns p2.view ≡ with_log p2.view.log (released [] p0.view) =
     c.take_row-2.ensures.released
-    ∙ ap (with_log p2.view.log) (c.take_row.ensures.released ∙ ap (λ (xs : List (Content _)). with_log p1.view.log (released (numbers_of xs) p0.view)) c.in_ok-cells.ensures.items) in
+    ∙ ap (with_log p2.view.log) (c.take_row.ensures.released ∙ ap (λ (xs : List (Content _ _ _)). with_log p1.view.log (released (numbers_of xs) p0.view)) c.in_ok-cells.ensures.items) in
     let since = extends_on c.take_row.ensures.log c.take_row-2.ensures.log in
     let back : ComesTo p3.view (released ns p3.view) p4.view =
     subst (λ ms. ComesTo p3.view (released ms p3.view) p4.view) c.move_and_draw-done.ensures.numbers c.give_back.ensures.comes in

@@ -8,4 +8,4 @@ pub returns-clause-entered : goal.returns-clause-entered
 returns-clause-entered g c = has_entered _ _ _ _ c.enter_step.ensures.takes.knows c.enter_step.ensures.takes.finds
 
 pub returns-clause-stepped : goal.returns-clause-stepped
-returns-clause-stepped g c = told_last (ap (λ (v : PassView _). last_found v.log) c.enter_step.ensures.takes.knows) c.enter_step.ensures
+returns-clause-stepped g c = told_last (ap (λ (v : PassView _ _ _). last_found v.log) c.enter_step.ensures.takes.knows) c.enter_step.ensures

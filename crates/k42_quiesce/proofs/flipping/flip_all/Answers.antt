@@ -13,11 +13,11 @@ loop-proc-init g c =
     let asked = c.generation_step.ensures in
     let goes = goes_asked _ c.generation_step.new.pass.view _ c.requires.unasked (ap is_quiet c.requires.grace) asked.takes.knows in
     let some : 0 < c.args.sys.now.procs = (let proc = c.requires.ours.proc in omega (arith, proc)) in
-    let at : c.generation_step.new.pass.view.turn.grace ≡ Flipping 0 = ap (λ (v : PassView _). v.turn.grace) asked.takes.knows ∙ c.requires.grace in (
+    let at : c.generation_step.new.pass.view.turn.grace ≡ Flipping 0 = ap (λ (v : PassView _ _ _). v.turn.grace) asked.takes.knows ∙ c.requires.grace in (
       still_of _ _ _ c.requires.ours asked.same goes,
       search rules,
       goes_nowhere _ (ap is_quiet at),
-      ap (λ (v : PassView _). is_some v.base) asked.takes.knows,
+      ap (λ (v : PassView _ _ _). is_some v.base) asked.takes.knows,
       at ∙ sym (ap (λ b. cond b (Flipping 0) (Looking 0)) (lt-ltb 0 c.args.sys.now.procs some)),
     )
 
@@ -38,6 +38,6 @@ loop-proc-preserved g c =
 pub returns-clause-goes : goal.returns-clause-goes
 returns-clause-goes g c =
     let asked = c.generation_step.ensures in
-    let at : c.generation_step.new.pass.view.turn.grace ≡ Flipping 0 = ap (λ (v : PassView _). v.turn.grace) asked.takes.knows ∙ c.requires.grace in
+    let at : c.generation_step.new.pass.view.turn.grace ≡ Flipping 0 = ap (λ (v : PassView _ _ _). v.turn.grace) asked.takes.knows ∙ c.requires.grace in
     goes_through _ _ _ (goes_asked _ c.generation_step.new.pass.view _ c.requires.unasked (ap is_quiet c.requires.grace) asked.takes.knows) (ap is_quiet at)
     c.loop-proc.invariant.2

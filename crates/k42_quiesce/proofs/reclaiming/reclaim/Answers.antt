@@ -59,7 +59,7 @@ returns-clause-rows g c =
     let swept = c.loop-object.invariant.2 in let given = c.give_role.ensures.takes 0 in
     rows_always _ _ _ c.give_role.new.pass.view c.args.pass.now.view.visitor.noted (still_noted _ _ _ _ _ swept past.0 _ given.knows)
     (all_swept _ _ _ _ _ swept past.0 _ given.knows) _
-    (subst (λ (v : PassView _). EachPlace (λ place row. IsGranted v.visitor.noted row) (take v.granted v.rows)) swept.rest given.finds)
+    (subst (λ (v : PassView _ _ _). EachPlace (λ place row. IsGranted v.visitor.noted row) (take v.granted v.rows)) swept.rest given.finds)
 
 pub returns-clause-swap : goal.returns-clause-swap
-returns-clause-swap g c = swap_always _ _ _ c.give_role.new.pass.view (ap (λ (v : PassView _). v.turn.grace) (c.give_role.ensures.takes 0).knows)
+returns-clause-swap g c = swap_always _ _ _ c.give_role.new.pass.view (ap (λ (v : PassView _ _ _). v.turn.grace) (c.give_role.ensures.takes 0).knows)

@@ -16,11 +16,11 @@ flip_all-requires-clause-ours g c κs within =
 
 pub flip_all-requires-clause-unasked : goal.flip_all-requires-clause-unasked
 flip_all-requires-clause-unasked g c κs within =
-    ap (λ (v : PassView _). v.base) (takes_role _ _ _ _ _ _ c.take_role-found.ensures.takes (none_found _ c.if-found-gt0.false)).0
+    ap (λ (v : PassView _ _ _). v.base) (takes_role _ _ _ _ _ _ c.take_role-found.ensures.takes (none_found _ c.if-found-gt0.false)).0
 
 pub flip_all-requires-clause-grace : goal.flip_all-requires-clause-grace
 flip_all-requires-clause-grace g c κs within =
-    ap (λ (v : PassView _). v.turn.grace) (takes_role _ _ _ _ _ _ c.take_role-found.ensures.takes (none_found _ c.if-found-gt0.false)).0
+    ap (λ (v : PassView _ _ _). v.turn.grace) (takes_role _ _ _ _ _ _ c.take_role-found.ensures.takes (none_found _ c.if-found-gt0.false)).0
 
 pub returns-clause-ours : goal.returns-clause-ours
 returns-clause-ours g c =
@@ -31,7 +31,7 @@ returns-clause-ours g c =
 
 pub returns-clause-goes : goal.returns-clause-goes
 returns-clause-goes g c none = (
-  subst (λ (v : PassView _). GoesOn v c.flip_all.new.pass.view)
+  subst (λ (v : PassView _ _ _). GoesOn v c.flip_all.new.pass.view)
       (takes_role _ _ _ _ _ _ c.take_role-found.ensures.takes (none_found _ c.if-found-gt0.false)).0 c.flip_all.ensures.goes,
   ap is_looking c.flip_all.ensures.grace,
 )

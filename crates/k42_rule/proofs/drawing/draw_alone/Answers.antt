@@ -13,7 +13,7 @@ use Rattle.k42_rule.proofs.drawing.draw_alone.Goals as goal
 pub store-requires-clause-may : goal.store-requires-clause-may
 store-requires-clause-may g c =
     let old = c.pass.invariant in
-    let may = subst (λ (p : PassSeen _). MayDrawAlone c.args.act c.args.answer p.view) (sym c.pass.view_is) c.requires.may in
+    let may = subst (λ (p : PassSeen _ _ _). MayDrawAlone c.args.act c.args.answer p.view) (sym c.pass.view_is) c.requires.may in
     may_keep _ c.pass.inside.number c.pass.inside.home _ c.pass.inside.clock c.pass.inside.kept old.13 _ refl refl (ap (λ (o : Own). o.drawn) old.0.own_is) may.few
     (subst (λ n. n < 16) (sym c.object_begun_in.ensures) old.20) (omega arith) (may.act_is ∙ sym (alone_told (pass_in c.pass.inside.seat.me.0) c.args.answer may.answer_is))
 
@@ -29,7 +29,7 @@ returns-clause-takes g c = λ found.
 
 pub returns-clause-later : goal.returns-clause-later
 returns-clause-later g c =
-    subst (λ (p : PassSeen _). last_stamp p.view.taker.mine < c.stamp_after-stamp.result) c.pass.view_is
+    subst (λ (p : PassSeen _ _ _). last_stamp p.view.taker.mine < c.stamp_after-stamp.result) c.pass.view_is
     (drawn_later _ c.pass.inside.number c.pass.inside.home (pass_in c.pass.inside.seat.me.0).taker.mine c.pass.inside.kept c.pass.inside.clock 0 c.stamp_after-stamp.result c.pass.invariant.13
     c.stamp_after-stamp.ensures)
 
@@ -38,7 +38,7 @@ pub invariant_of-pass : goal.invariant_of-pass
 invariant_of-pass g c =
     let old = c.pass.invariant in let v = pass_in c.pass.inside.seat.me.0 in
     let taken = c.alone_word.ensures 0 in
-    let few = subst (λ (p : PassSeen _). length p.view.taker.mine < PASS_ENTRIES) (sym c.pass.view_is) c.requires.may.few in (
+    let few = subst (λ (p : PassSeen _ _ _). length p.view.taker.mine < PASS_ENTRIES) (sym c.pass.view_is) c.requires.may.few in (
       mirrors_drawn _ c.pass.inside.seat.me c.alone_word.new.seat.me _ _ _ old.0 taken.alone refl refl old.0.told refl,
       old.1,
       old.2,

@@ -12,7 +12,7 @@ draw_at-requires-clause-agree g c κs within =
 pub returns-clause-told : goal.returns-clause-told
 returns-clause-told g c =
     told_back c.draw_at.new.pass.view.notes c.args.cells.now.items c.draw_at.new.cells c.args.cells.now.len c.args.cells.now.ok.0
-    (subst (λ (xs : List (Content _)). AreTold c.draw_at.new.pass.view.notes xs c.draw_at.new.cells) c.as_mut_slice.ensures.value c.draw_at.ensures.told)
+    (subst (λ (xs : List (Content _ _ _)). AreTold c.draw_at.new.pass.view.notes xs c.draw_at.new.cells) c.as_mut_slice.ensures.value c.draw_at.ensures.told)
 
 pub returns-clause-drawn : goal.returns-clause-drawn
 returns-clause-drawn g c = rw (← c.as_mut_slice.ensures.value) c.draw_at.ensures.drawn

@@ -34,12 +34,12 @@ tell_cell-requires-clause-due g c κs within =
     let taken = c.mark_word.ensures 0 in
     subst (λ shut. IsDue (pass_in c.mark_word.new.seat.me.0).notes c.args.cell.now.number shut c.stamp_after-stamp.result) (sym c.is_closed-closed.ensures)
     (mark_due _ (pass_in c.pass.inside.seat.me.0) c.args.cell.now _ c.mark_word.new.seat.me taken.alone taken.takes.finds
-    (subst (λ (p : PassSeen _). IsHeld p.view.notes c.args.cell.now) (sym c.pass.view_is) c.requires.may.held))
+    (subst (λ (p : PassSeen _ _ _). IsHeld p.view.notes c.args.cell.now) (sym c.pass.view_is) c.requires.may.held))
 
 pub store-requires-clause-may : goal.store-requires-clause-may
 store-requires-clause-may g c =
     let old = c.pass.invariant in
-    let few = subst (λ (p : PassSeen _). length p.view.taker.mine < PASS_ENTRIES) (sym c.pass.view_is) c.requires.may.few in
+    let few = subst (λ (p : PassSeen _ _ _). length p.view.taker.mine < PASS_ENTRIES) (sym c.pass.view_is) c.requires.may.few in
     may_keep _ c.pass.inside.number c.pass.inside.home _ c.pass.inside.clock c.pass.inside.kept old.13 _ refl refl (ap (λ (o : Own). o.drawn) old.0.own_is) few
     (subst (λ n. n < 16) (sym c.object_begun_in.ensures) old.20) (let small = c.args.cell.now.few in let is = c.number.ensures in omega (arith, small, is))
     (c.requires.may.act_is ∙ sym (over_told c.args.answer c.requires.may.over))
@@ -47,19 +47,19 @@ store-requires-clause-may g c =
 pub returns-clause-drawn : goal.returns-clause-drawn
 returns-clause-drawn g c =
     let taken = c.mark_word.ensures in let seat = c.pass.inside.seat in let v = pass_in seat.me.0 in let cell = c.args.cell.now in
-    let after = λ (e : Entry) (w : PassView _). took steps.Draw (lock_word cell.number) 0 (drawn_at (cell ∷ []) e w) in
+    let after = λ (e : Entry _ _) (w : PassView _ _ _). took steps.Draw (lock_word cell.number) 0 (drawn_at (cell ∷ []) e w) in
     let entry =
     mark_entry v _ c.pass.invariant.0.own_is c.args.act c.args.answer c.requires.may.act_is c.stamp_after-stamp.result c.pass.inside.drawn c.object_begun_in.result c.incarnation_at.result
     refl c.object_begun_in.ensures c.number.result c.args.cell.now.number (search rules) (search rules) (search rules) in
-    let told = c.tell_cell.ensures.seated ∙ ap (λ (m : Seated _). (Crew (untold_view (after_first (pass_in m.0).untold) (pass_in c.mark_word.new.seat.me.0) ∷ []), [])) (taken 0).alone in record {
+    let told = c.tell_cell.ensures.seated ∙ ap (λ (m : Seated _ _ _). (Crew (untold_view (after_first (pass_in m.0).untold) (pass_in c.mark_word.new.seat.me.0) ∷ []), [])) (taken 0).alone in record {
       drawer = drawer_is _ _ _ c.pass.inside.kept c.store.new.kept c.pass.view_is (c.tell_cell.ensures.ours.0 ∙ (taken 0).table) (c.tell_cell.ensures.ours.1 ∙ (taken 0).seat) refl refl refl c.store.ensures.room refl refl refl refl;
-      knows = knows_drawn _ c.mark_word.new.seat.me c.tell_cell.new.seat.me (taken 0).alone told ∙ ap (λ (e : Entry). after e v) entry ∙ ap (λ (p : PassSeen _). after (entry_mark p.view c.args.cell.now.number c.args.act c.args.answer) p.view) c.pass.view_is;
+      knows = knows_drawn _ c.mark_word.new.seat.me c.tell_cell.new.seat.me (taken 0).alone told ∙ ap (λ (e : Entry _ _). after e v) entry ∙ ap (λ (p : PassSeen _ _ _). after (entry_mark p.view c.args.cell.now.number c.args.act c.args.answer) p.view) c.pass.view_is;
       takes = λ found. rw (← c.pass.view_is, ← c.sys.view_is, ← entry) (takes_drawn _ c.mark_word.new.seat.me c.tell_cell.new.seat.me (taken 0).alone told _ refl found (taken found).takes);
     }
 
 pub returns-clause-later : goal.returns-clause-later
 returns-clause-later g c =
-    subst (λ (p : PassSeen _). last_stamp p.view.taker.mine < c.stamp_after-stamp.result) c.pass.view_is
+    subst (λ (p : PassSeen _ _ _). last_stamp p.view.taker.mine < c.stamp_after-stamp.result) c.pass.view_is
     (drawn_later _ c.pass.inside.number c.pass.inside.home (pass_in c.pass.inside.seat.me.0).taker.mine c.pass.inside.kept c.pass.inside.clock c.last_stamp.result c.stamp_after-stamp.result c.pass.invariant.13
     c.stamp_after-stamp.ensures)
 
@@ -68,7 +68,7 @@ pub invariant_of-pass : goal.invariant_of-pass
 invariant_of-pass g c =
     let old = c.pass.invariant in let v = pass_in c.pass.inside.seat.me.0 in
     let taken = c.mark_word.ensures 0 in let told = taken.alone in
-    let few = subst (λ (p : PassSeen _). length p.view.taker.mine < PASS_ENTRIES) (sym c.pass.view_is) c.requires.may.few in
+    let few = subst (λ (p : PassSeen _ _ _). length p.view.taker.mine < PASS_ENTRIES) (sym c.pass.view_is) c.requires.may.few in
     let seated = c.tell_cell.ensures.seated ∙ (λ i. (Crew (untold_view (after_first (pass_in (told i).0).untold) (pass_in (told i).0) ∷ []), [])) in (
       mirrors_drawn _ c.pass.inside.seat.me c.tell_cell.new.seat.me _ _ _ old.0 seated refl refl refl refl,
       old.1,

@@ -24,10 +24,10 @@ invariant_of-pass g c =
     rows_given c.pass.inside.rows.items _ _ c.len.result c.pass.inside.granted c.rotate_left.ensures.items many c.truncate.ensures.items
     ∙ ap (λ (o : Own). drop o.granted o.rows) old.0.own_is in (
       record {
-        seat = taken.alone ∙ ap (λ (v : PassView _). (Crew (v ∷ []), [])) (sym is);
+        seat = taken.alone ∙ ap (λ (v : PassView _ _ _). (Crew (v ∷ []), [])) (sym is);
         own_is = given_own v _ old.0.own_is c.fill.new.self.items c.truncate.new.self.items freeing rows ∙ sym (ap own_in is);
-        out = ap (λ (v : PassView _). v.out) is ∙ old.0.out;
-        told = ap (λ (v : PassView _). v.untold) is ∙ old.0.told;
+        out = ap (λ (v : PassView _ _ _). v.out) is ∙ old.0.out;
+        told = ap (λ (v : PassView _ _ _). v.untold) is ∙ old.0.told;
       },
       old.1,
       old.2,
@@ -41,7 +41,7 @@ invariant_of-pass g c =
       omega arith,
       tt,
       old.12,
-      subst (λ (x : PassView _). HasKept (record { what = c.pass.inside.keep; given = c.pass.inside.given; since = c.pass.inside.since }) c.pass.inside.number c.pass.inside.home x.taker.mine c.pass.inside.clock c.pass.inside.kept) (sym is) old.13,
+      subst (λ (x : PassView _ _ _). HasKept (record { what = c.pass.inside.keep; given = c.pass.inside.given; since = c.pass.inside.since }) c.pass.inside.number c.pass.inside.home x.taker.mine c.pass.inside.clock c.pass.inside.kept) (sym is) old.13,
       old.14,
       old.15,
       old.16,

@@ -1,5 +1,8 @@
 use Rattle.std.proofs.Common.{rules, refl, ◌<◌, List, length, arith, sym, ap, ◌∙◌, subst}
 use Rattle.phase_core.specs.declared.caller.SwapAt.{SwapAt}
+use Rattle.k42_limits.specs.declared.TheConstants.{LAST_INCARNATION}
+use Rattle.k42_places.specs.Places.{EachPlace}
+use Rattle.k42_board.specs.declared.view.Row.{Row}
 use Rattle.k42_board.specs.Queueing.{IsTied}
 use Rattle.k42_board.specs.Seen.{Own}
 use Rattle.phase_core.specs.Stages.{object_named}
@@ -11,6 +14,11 @@ use Rattle.k42_rule.specs.Keeping.{HasKept}
 use Rattle.k42_rule.proofs.Fitting.{fits_draining}
 use Rattle.k42_rule.proofs.RoleTaken.{draining_named, draining_next, noted_anew, role_keeps, role_mirrors}
 use Rattle.k42_rule.proofs.gracing.take_role.Goals as goal
+
+pub note_all-requires-clause-rows : goal.note_all-requires-clause-rows
+note_all-requires-clause-rows g c =
+    let was = c.pass.invariant in
+    subst (EachPlace (λ place (row : Row). row.incarnation < LAST_INCARNATION)) (sym (c.as_slice.ensures.value ∙ ap (λ (o : Own). o.rows) was.0.own_is)) c.take_role_word-found.ensures.takes.finds.rows
 
 pub invariant_of-pass : goal.invariant_of-pass
 invariant_of-pass g c =
@@ -31,7 +39,7 @@ invariant_of-pass g c =
       omega (arith, many),
       (subst (λ (o : Own). 0 < length o.turn.waits) (sym was.0.own_is) c.take_role_word-found.ensures.takes.finds.procs, λ some. absurd (omega (arith, some))),
       omega arith,
-      subst (λ (mine : List Entry). HasKept (record { what = pass.keep; given = pass.given; since = pass.since }) pass.number pass.home mine pass.clock pass.kept) (sym (role_keeps v c.take_role_word-found.new.seat.me c.take_role_word-found.result c.take_role_word-found.ensures.alone c.if-found-eq0.true)) was.13,
+      subst (λ (mine : List (Entry _ _)). HasKept (record { what = pass.keep; given = pass.given; since = pass.since }) pass.number pass.home mine pass.clock pass.kept) (sym (role_keeps v c.take_role_word-found.new.seat.me c.take_role_word-found.result c.take_role_word-found.ensures.alone c.if-found-eq0.true)) was.13,
       was.14,
       fits_draining pass.swap pass.turned pass.handed pass.last was.15 c.draining-pass-inside.result swap_is,
       was.16,

@@ -31,11 +31,11 @@ use Rattle.k42_rule.proofs.Pushed.{drawer_is, drawn_later, kept_drawn, longer_dr
 use Rattle.k42_rule.proofs.handing.hand_at.Goals as goal
 
 -- what the step has told, of the view that the caller sees
-told_of : {P : Type 0} (cells : List (Content P)) (entry : Entry) (tag procs procs' word : ℕ) (v v' : PassView P) (me : Seated P) → procs ≡ procs' → v ≡ v'
+told_of : {P O R : Type 0} (cells : List (Content P O R)) (entry : Entry O R) (tag procs procs' word : ℕ) (v v' : PassView P O R) (me : Seated P O R) → procs ≡ procs' → v ≡ v'
     → IsSeatOf me (took steps.Draw word 0 (hands_at (take procs cells) (drop procs cells) entry tag v)) × HasSmallStamp (hands_at (take procs cells) (drop procs cells) entry tag v)
     → IsSeatOf me (took steps.Draw word 0 (hands_at (take procs' cells) (drop procs' cells) entry tag v')) × HasSmallStamp (hands_at (take procs' cells) (drop procs' cells) entry tag v')
-told_of {P} cells entry tag procs procs' word v v' me same same' told =
-    subst (λ (z : ℕ × PassView P). IsSeatOf me (took steps.Draw word 0 (hands_at (take z.0 cells) (drop z.0 cells) entry tag z.1)) × HasSmallStamp (hands_at (take z.0 cells) (drop z.0 cells) entry tag z.1))
+told_of {P} {O} {R} cells entry tag procs procs' word v v' me same same' told =
+    subst (λ (z : ℕ × PassView P O R). IsSeatOf me (took steps.Draw word 0 (hands_at (take z.0 cells) (drop z.0 cells) entry tag z.1)) × HasSmallStamp (hands_at (take z.0 cells) (drop z.0 cells) entry tag z.1))
     (λ j. (same j, same' j)) told
 
 pub tell_all-requires-clause-ours : goal.tell_all-requires-clause-ours
@@ -50,7 +50,7 @@ tell_all-requires-clause-untold g c κs within =
     let F = layouts_on g.L.Kind.object g.L.Layout.tag_of g.L.Layout.ways g.L.Layout.whole g.L.Layout.serves g.L.Layout.admitted g.L.Layout.act_of sys.procs sys.callers in
     let taken = c.hand_word.ensures 0 in
     let told = told_of cells entry tag c.sys.inside.board.shared.key.procs sys.procs (lock_word (first_cell (numbers_of cells))) (pass_in c.pass.inside.seat.me.0) v c.hand_word.new.seat.me
-    (ap (λ (s : SysSeen _). s.procs) c.sys.view_is) (ap (λ (p : PassSeen _). p.view) c.pass.view_is) (taken.alone, taken.takes.finds) in
+    (ap (λ (s : SysSeen _). s.procs) c.sys.view_is) (ap (λ (p : PassSeen _ _ _). p.view) c.pass.view_is) (taken.alone, taken.takes.finds) in
     untold_is F sys.layouts cells c.args.to.now c.args.answer v c.requires.may entry tag c.hand_word.new.seat.me (lock_word (first_cell (numbers_of cells))) told.0
 
 pub tell_all-requires-clause-due : goal.tell_all-requires-clause-due
@@ -60,7 +60,7 @@ tell_all-requires-clause-due g c κs within =
     let procs : c.sys.inside.board.shared.key.procs ≡ sys.procs = ap (λ (s : SysSeen _). s.procs) c.sys.view_is in
     let taken = c.hand_word.ensures 0 in
     let told = told_of cells entry tag c.sys.inside.board.shared.key.procs sys.procs (lock_word (first_cell (numbers_of cells))) (pass_in c.pass.inside.seat.me.0) v c.hand_word.new.seat.me
-    procs (ap (λ (p : PassSeen _). p.view) c.pass.view_is) (taken.alone, taken.takes.finds) in
+    procs (ap (λ (p : PassSeen _ _ _). p.view) c.pass.view_is) (taken.alone, taken.takes.finds) in
     subst (λ n. AreDue (pass_in c.hand_word.new.seat.me.0).notes n true entry.stamp cells) (sym (c.sys.invariant.3 ∙ procs))
     (due_is F sys.layouts cells c.args.to.now c.args.answer v c.requires.may entry tag c.hand_word.new.seat.me (lock_word (first_cell (numbers_of cells))) told.0 (subst (λ n. n ≤ 8) procs c.sys.invariant.7) told.1)
 
@@ -68,20 +68,20 @@ pub store-requires-clause-may : goal.store-requires-clause-may
 store-requires-clause-may g c =
     let v = c.args.pass.now.view in let old = c.pass.invariant in let entry = c.done_entry-entry.result in
     let met = g.met.L.Layout g.world.𝓛 g.world.𝓜 g.world.𝓡 ((λ s x. x), (λ x. x), (λ x. x), λ x. x) in
-    let own = old.0.own_is ∙ ap own_in (ap (λ (p : PassSeen _). p.view) c.pass.view_is) in let is = c.done_entry-entry.ensures.is in
-    let few = subst (λ (p : PassSeen _). length p.view.taker.mine < PASS_ENTRIES) (sym c.pass.view_is) c.requires.may.few in
-    let object = subst (λ n. n < 16) (ap (λ (o : Own). object_named o.swap) own ∙ sym (ap (λ (e : Entry). e.object) is)) old.4 in
+    let own = old.0.own_is ∙ ap own_in (ap (λ (p : PassSeen _ _ _). p.view) c.pass.view_is) in let is = c.done_entry-entry.ensures.is in
+    let few = subst (λ (p : PassSeen _ _ _). length p.view.taker.mine < PASS_ENTRIES) (sym c.pass.view_is) c.requires.may.few in
+    let object = subst (λ n. n < 16) (ap (λ (o : Own). object_named o.swap) own ∙ sym (ap (λ (e : Entry _ _). e.object) is)) old.4 in
     let cell = c.done_entry-entry.ensures.few in
     may_keep _ c.pass.inside.number c.pass.inside.home _ c.pass.inside.clock c.pass.inside.kept old.13 entry
-    (ap (λ (e : Entry). e.caller) is ∙ sym (ap (λ (o : Own). o.number) own)) (ap (λ (e : Entry). e.proc) is ∙ sym (ap (λ (o : Own). o.turn.proc) own))
-    (ap (λ (e : Entry). e.index) is ∙ ap (λ (p : PassSeen _). length p.view.taker.mine) (sym c.pass.view_is)) few object (omega (arith, cell))
-    (ap (λ (e : Entry). is_call e.act) is ∙ met.asks c.args.to.now ∙ sym (ap is_reply (ap (λ (e : Entry). e.answer) is ∙ c.requires.may.answer_is)))
+    (ap (λ (e : Entry _ _). e.caller) is ∙ sym (ap (λ (o : Own). o.number) own)) (ap (λ (e : Entry _ _). e.proc) is ∙ sym (ap (λ (o : Own). o.turn.proc) own))
+    (ap (λ (e : Entry _ _). e.index) is ∙ ap (λ (p : PassSeen _ _ _). length p.view.taker.mine) (sym c.pass.view_is)) few object (omega (arith, cell))
+    (ap (λ (e : Entry _ _). is_call e.act) is ∙ met.asks c.args.to.now ∙ sym (ap is_reply (ap (λ (e : Entry _ _). e.answer) is ∙ c.requires.may.answer_is)))
 
 pub invariant_of-pass : goal.invariant_of-pass
 invariant_of-pass g c =
     let sys = c.args.sys.now in let v = c.args.pass.now.view in let cells = c.args.cells.now in let entry = c.done_entry-entry.result in let tag = g.L.Layout.tag_of c.args.to.now in
     let F = layouts_on g.L.Kind.object g.L.Layout.tag_of g.L.Layout.ways g.L.Layout.whole g.L.Layout.serves g.L.Layout.admitted g.L.Layout.act_of sys.procs sys.callers in
-    let same : pass_in c.pass.inside.seat.me.0 ≡ v = ap (λ (p : PassSeen _). p.view) c.pass.view_is in
+    let same : pass_in c.pass.inside.seat.me.0 ≡ v = ap (λ (p : PassSeen _ _ _). p.view) c.pass.view_is in
     let taken = c.hand_word.ensures 0 in
     let told = told_of cells entry tag c.sys.inside.board.shared.key.procs sys.procs (lock_word (first_cell (numbers_of cells))) (pass_in c.pass.inside.seat.me.0) v c.hand_word.new.seat.me
     (ap (λ (s : SysSeen _). s.procs) c.sys.view_is) same (taken.alone, taken.takes.finds) in
@@ -119,8 +119,8 @@ invariant_of-pass g c =
       old.10,
       old.11,
       old.12,
-      kept_drawn _ c.pass.inside.number c.pass.inside.home c.pass.inside.kept c.store.new.kept c.pass.inside.clock (last_noted v.notes (numbers_of cells)) v entry entry.stamp c.tell_all.new.seat.me _ (subst (λ (x : PassView _). HasKept (record { what = c.pass.inside.keep; given = c.pass.inside.given; since = c.pass.inside.since }) c.pass.inside.number c.pass.inside.home x.taker.mine c.pass.inside.clock c.pass.inside.kept) same old.13) refl
-          (stamp_told F sys.layouts cells c.args.to.now c.args.answer v c.requires.may entry tag (g.L.Layout.act_of c.args.to.now) c.done_entry-entry.ensures.is ∙ ap (λ (o : Own). max o.clock (last_noted v.notes (numbers_of cells)) + 1) (sym own)) (ap (λ (e : Entry). e.caller) c.done_entry-entry.ensures.is ∙ ap (λ (o : Own). o.number) (sym own)) c.requires.may.few c.store.ensures.entries c.store.ensures.owner c.store.ensures.first c.tell_all.ensures.seated mine_now,
+      kept_drawn _ c.pass.inside.number c.pass.inside.home c.pass.inside.kept c.store.new.kept c.pass.inside.clock (last_noted v.notes (numbers_of cells)) v entry entry.stamp c.tell_all.new.seat.me _ (subst (λ (x : PassView _ _ _). HasKept (record { what = c.pass.inside.keep; given = c.pass.inside.given; since = c.pass.inside.since }) c.pass.inside.number c.pass.inside.home x.taker.mine c.pass.inside.clock c.pass.inside.kept) same old.13) refl
+          (stamp_told F sys.layouts cells c.args.to.now c.args.answer v c.requires.may entry tag (g.L.Layout.act_of c.args.to.now) c.done_entry-entry.ensures.is ∙ ap (λ (o : Own). max o.clock (last_noted v.notes (numbers_of cells)) + 1) (sym own)) (ap (λ (e : Entry _ _). e.caller) c.done_entry-entry.ensures.is ∙ ap (λ (o : Own). o.number) (sym own)) c.requires.may.few c.store.ensures.entries c.store.ensures.owner c.store.ensures.first c.tell_all.ensures.seated mine_now,
       told.1,
       fits_handed c.pass.inside.swap c.pass.inside.turned c.pass.inside.handed c.pass.inside.last old.15 _
           (ap (λ (o : Own). is_moved o.swap) own ∙ ap is_moved c.requires.may.moved),
@@ -142,23 +142,23 @@ pub returns-clause-later : goal.returns-clause-later
 returns-clause-later g c =
     let sys = c.args.sys.now in let v = c.args.pass.now.view in let cells = c.args.cells.now in let entry = c.done_entry-entry.result in let tag = g.L.Layout.tag_of c.args.to.now in
     let F = layouts_on g.L.Kind.object g.L.Layout.tag_of g.L.Layout.ways g.L.Layout.whole g.L.Layout.serves g.L.Layout.admitted g.L.Layout.act_of sys.procs sys.callers in
-    let own = c.pass.invariant.0.own_is ∙ ap own_in (ap (λ (p : PassSeen _). p.view) c.pass.view_is) in
-    subst (λ (p : PassSeen _). last_stamp p.view.taker.mine < entry.stamp) c.pass.view_is
+    let own = c.pass.invariant.0.own_is ∙ ap own_in (ap (λ (p : PassSeen _ _ _). p.view) c.pass.view_is) in
+    subst (λ (p : PassSeen _ _ _). last_stamp p.view.taker.mine < entry.stamp) c.pass.view_is
     (drawn_later _ c.pass.inside.number c.pass.inside.home (pass_in c.pass.inside.seat.me.0).taker.mine c.pass.inside.kept c.pass.inside.clock (last_noted v.notes (numbers_of cells)) entry.stamp c.pass.invariant.13
     (stamp_told F sys.layouts cells c.args.to.now c.args.answer v c.requires.may entry tag (g.L.Layout.act_of c.args.to.now) c.done_entry-entry.ensures.is
     ∙ ap (λ (o : Own). max o.clock (last_noted v.notes (numbers_of cells)) + 1) (sym own)))
 
 pub returns-clause-told : goal.returns-clause-told
 returns-clause-told g c =
-    subst (λ (notes : List (Note _)). AreTold notes c.args.cells.now c.tell_all.new.cells) (sym (ap (λ (m : Seated _). (pass_in m.0).notes) c.tell_all.ensures.seated)) c.tell_all.ensures.told
+    subst (λ (notes : List (Note _ _ _)). AreTold notes c.args.cells.now c.tell_all.new.cells) (sym (ap (λ (m : Seated _ _ _). (pass_in m.0).notes) c.tell_all.ensures.seated)) c.tell_all.ensures.told
 
 pub returns-clause-drawn : goal.returns-clause-drawn
 returns-clause-drawn g c =
     let sys = c.args.sys.now in let v = c.args.pass.now.view in let cells = c.args.cells.now in let taken = c.hand_word.ensures in
     let F = layouts_on g.L.Kind.object g.L.Layout.tag_of g.L.Layout.ways g.L.Layout.whole g.L.Layout.serves g.L.Layout.admitted g.L.Layout.act_of sys.procs sys.callers in
     let procs : c.sys.inside.board.shared.key.procs ≡ sys.procs = ap (λ (s : SysSeen _). s.procs) c.sys.view_is in
-    let same : pass_in c.pass.inside.seat.me.0 ≡ v = ap (λ (p : PassSeen _). p.view) c.pass.view_is in
-    let after = λ (n : ℕ) (e : Entry) (w : PassView _). took steps.Draw (lock_word (first_cell (numbers_of cells))) 0 (handed_at (take n cells) (drop n cells) e (g.L.Layout.tag_of c.args.to.now) w) in
+    let same : pass_in c.pass.inside.seat.me.0 ≡ v = ap (λ (p : PassSeen _ _ _). p.view) c.pass.view_is in
+    let after = λ (n : ℕ) (e : Entry _ _) (w : PassView _ _ _). took steps.Draw (lock_word (first_cell (numbers_of cells))) 0 (handed_at (take n cells) (drop n cells) e (g.L.Layout.tag_of c.args.to.now) w) in
     let all =
     subst (λ n. numbers_of (take n cells) ++ numbers_of (drop n cells) ≡ numbers_of cells) (sym procs)
     (all_numbers F sys.layouts cells c.args.to.now c.args.answer v c.requires.may) in record {

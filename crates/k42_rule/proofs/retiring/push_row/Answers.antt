@@ -26,12 +26,12 @@ pub take_back-requires-clause-granted : goal.take_back-requires-clause-granted
 take_back-requires-clause-granted g c κs within = λ more.
     let mirrors = c.pass.invariant.0 in let v = pass_in c.pass.inside.seat.me.0 in
     let rows : c.pass.inside.rows.items ≡ v.rows = ap (λ (o : Own). o.rows) mirrors.own_is in
-    let lt : 0 < length v.rows = let holds = c.requires.holds in let seen = ap (λ (p : PassSeen _). length p.view.rows) c.pass.view_is in omega (arith, holds, seen) in
+    let lt : 0 < length v.rows = let holds = c.requires.holds in let seen = ap (λ (p : PassSeen _ _ _). length p.view.rows) c.pass.view_is in omega (arith, holds, seen) in
     let all : length v.rows ≤ v.granted =
     let granted = ap (λ (o : Own). o.granted) mirrors.own_is in let is = ltb-true _ c.pass.inside.granted more in let long = c.take_last-row.ensures.len in let same = ap length rows in
     omega (arith, granted, is, long, same) in
     let same : (pass_in c.name_newest-seat.new.seat.me.0).visitor.noted ≡ v.visitor.noted =
-    ap (λ (m : Seated _). (pass_in m.0).visitor.noted) c.name_newest-seat.ensures.told in
+    ap (λ (m : Seated _ _ _). (pass_in m.0).visitor.noted) c.name_newest-seat.ensures.told in
     let row : row_named c.into_parts-seat.result.1.me.0 ≡ newest v.rows =
-    ap (λ (x : Row × _). row_named x.1.me.0) c.into_parts-seat.ensures ∙ ap (λ (x : Slip _). row_named x.seat.me.0) (c.in-Err.ensures.rule.0 ∙ c.of-slip.ensures) ∙ ap (λ (m : Seated _). row_named m.0) c.name_newest-seat.ensures.named.1 in
+    ap (λ (x : Row × _). row_named x.1.me.0) c.into_parts-seat.ensures ∙ ap (λ (x : Slip _ _ _). row_named x.seat.me.0) (c.in-Err.ensures.rule.0 ∙ c.of-slip.ensures) ∙ ap (λ (m : Seated _ _ _). row_named m.0) c.name_newest-seat.ensures.named.1 in
     subst (λ (z : List (Option ℕ) × Row). IsGranted z.0 z.1) (λ i. (sym same i, sym row i)) (granted_newest v c.name_newest-seat.ensures.granted all lt)

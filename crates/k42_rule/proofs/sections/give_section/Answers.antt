@@ -15,8 +15,8 @@ raise_clocks-requires-clause-ours g c κs within = λ n pass at. (c.requires.may
 
 pub give_rests-requires-clause-keeps : goal.give_rests-requires-clause-keeps
 give_rests-requires-clause-keeps g c κs within =
-    subst (EachPlace (λ n (pass : PassSeen _). pass.keep.what ≡ keeps.Sections)) (sym c.raise_clocks.ensures)
-    (EachPlace-map (λ n (pass : PassSeen _). pass.keep.what ≡ keeps.Sections) (skipped (greatest_clock (views_of c.args.passes.now))) c.args.passes.now c.requires.may.keeps)
+    subst (EachPlace (λ n (pass : PassSeen _ _ _). pass.keep.what ≡ keeps.Sections)) (sym c.raise_clocks.ensures)
+    (EachPlace-map (λ n (pass : PassSeen _ _ _). pass.keep.what ≡ keeps.Sections) (skipped (greatest_clock (views_of c.args.passes.now))) c.args.passes.now c.requires.may.keeps)
 
 pub give_rests-requires-clause-room : goal.give_rests-requires-clause-room
 give_rests-requires-clause-room g c κs within =

@@ -6,13 +6,13 @@ use Rattle.k42_rule.proofs.sections.raise_clocks.Goals as goal
 
 pub skip_on-greatest-requires-clause-ours : goal.skip_on-greatest-requires-clause-ours
 skip_on-greatest-requires-clause-ours g c κs within =
-    subst (EachPlace (λ place (pass : PassSeen _). pass.table ≡ c.args.sys.now.table)) (sym c.tell_first.ensures.same) c.requires.ours
+    subst (EachPlace (λ place (pass : PassSeen _ _ _). pass.table ≡ c.args.sys.now.table)) (sym c.tell_first.ensures.same) c.requires.ours
 
 pub skip_on-requires-clause-ours : goal.skip_on-requires-clause-ours
 skip_on-requires-clause-ours g c κs within =
-    subst (EachPlace (λ place (pass : PassSeen _). pass.table ≡ c.args.sys.now.table)) (sym c.skip_on-greatest.ensures.passes)
+    subst (EachPlace (λ place (pass : PassSeen _ _ _). pass.table ≡ c.args.sys.now.table)) (sym c.skip_on-greatest.ensures.passes)
     (skipped_ours c.args.sys.now.table c.in-Some.telling.stamp _
-    (subst (EachPlace (λ place (pass : PassSeen _). pass.table ≡ c.args.sys.now.table)) (sym c.tell_first.ensures.same) c.requires.ours))
+    (subst (EachPlace (λ place (pass : PassSeen _ _ _). pass.table ≡ c.args.sys.now.table)) (sym c.tell_first.ensures.same) c.requires.ours))
 
 pub returns : goal.returns
 returns g c =

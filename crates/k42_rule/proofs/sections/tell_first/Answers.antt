@@ -6,7 +6,7 @@ use Rattle.k42_rule.proofs.sections.tell_first.Goals as goal
 pub tell-requires-clause-ours : goal.tell-requires-clause-ours
 tell-requires-clause-ours g c κs within =
     let first = at_first c.args.passes.now c.in_ok-first.first.now c.in_ok-first.ensures.item.0 c.in_ok-first.ensures.item.1 in
-    each_first (λ (pass : PassSeen _). pass.table ≡ c.args.sys.now.table) _ _ _ first.1 c.requires.ours
+    each_first (λ (pass : PassSeen _ _ _). pass.table ≡ c.args.sys.now.table) _ _ _ first.1 c.requires.ours
 
 pub returns-clause-same : goal.returns-clause-same
 returns-clause-same g c = first_put c.args.passes.now c.in_ok-first.first.now c.tell.new.pass c.in_ok-first.ensures.item.0 c.in_ok-first.ensures.item.1 c.tell.ensures.same

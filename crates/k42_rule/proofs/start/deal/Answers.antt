@@ -15,7 +15,7 @@ split_seat-own-requires g c =
     let F = layouts_on g.L.Kind.object g.L.Layout.tag_of g.L.Layout.ways g.L.Layout.whole g.L.Layout.serves g.L.Layout.admitted g.L.Layout.act_of key.procs key.callers.items in (
       c.requires.ours.0,
       (let wide = c.requires.ours.1 in omega (arith, wide)),
-      subst (λ (w : View _). Splits (Ruled F key.layouts.items (length key.callers.items)) id w (dealer w) (dealt w)) (sym (ap (λ (m : Seated _). m.0) crew.1))
+      subst (λ (w : View _ _ _). Splits (Ruled F key.layouts.items (length key.callers.items)) id w (dealer w) (dealt w)) (sym (ap (λ (m : Seated _ _ _). m.0) crew.1))
           (deals F key.layouts.items (length key.callers.items) id _ crew.0 refl),
     )
 

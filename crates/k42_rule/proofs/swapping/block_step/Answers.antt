@@ -9,7 +9,7 @@ use Rattle.k42_rule.proofs.swapping.block_step.Goals as goal
 pub invariant_of-pass : goal.invariant_of-pass
 invariant_of-pass g c =
     let pass = c.pass.inside in
-    let drained = ap (λ (o : Own). is_drained o.swap) c.pass.invariant.0.own_is ∙ ap (λ (p : PassSeen _). is_drained p.view.visitor.swap) c.pass.view_is ∙ c.requires.may.drained in
+    let drained = ap (λ (o : Own). is_drained o.swap) c.pass.invariant.0.own_is ∙ ap (λ (p : PassSeen _ _ _). is_drained p.view.visitor.swap) c.pass.view_is ∙ c.requires.may.drained in
     let fits = subst (λ o. FitsSwap (Blocking o) pass.turned pass.handed pass.last) (sym c.object_at-object.ensures) (fits_blocked pass.swap pass.turned pass.handed pass.last c.pass.invariant.15 drained) in
     search (rules, fits)
 

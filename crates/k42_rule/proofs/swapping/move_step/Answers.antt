@@ -9,7 +9,7 @@ use Rattle.k42_rule.proofs.swapping.move_step.Goals as goal
 pub invariant_of-pass : goal.invariant_of-pass
 invariant_of-pass g c =
     let pass = c.pass.inside in
-    let blocks = ap (λ (o : Own). is_blocking o.swap) c.pass.invariant.0.own_is ∙ ap (λ (p : PassSeen _). is_blocking p.view.visitor.swap) c.pass.view_is ∙ c.requires.may in
+    let blocks = ap (λ (o : Own). is_blocking o.swap) c.pass.invariant.0.own_is ∙ ap (λ (p : PassSeen _ _ _). is_blocking p.view.visitor.swap) c.pass.view_is ∙ c.requires.may in
     let fits = subst (λ o. FitsSwap (Moved o) pass.turned pass.handed pass.last) (sym c.object_at-object.ensures) (fits_moved pass.swap pass.turned pass.handed pass.last c.pass.invariant.15 blocks) in
     search (rules, fits)
 

@@ -6,7 +6,7 @@ use Rattle.k42_board.specs.declared.view.PassView.{PassView}
 use Rattle.k42_rule.proofs.taking.lock_quietly.Goals as goal
 
 -- a try that took the lock is the other step
-took_lock : {S L P : Type 0} (F : Layouts S L P) (declared : List L) (n id : ℕ) (v w : PassView P) (found : ℕ) → found ≡ 0
+took_lock : {S L P O R : Type 0} (F : Layouts S L P O R) (declared : List L) (n id : ℕ) (v w : PassView P O R) (found : ℕ) → found ≡ 0
     → Takes F declared (lock_quietly n) id v found w → Takes F declared (lock n) id v 0 w
 took_lock F declared n id v w found free taken =
     let at = subst (λ m. Takes F declared (lock_quietly n) id v m w) free taken in record { knows = at.knows; finds = at.finds; event = at.event }

@@ -6,6 +6,8 @@ use Rattle.k42_mediator.proofs.GivenBack.{released_none}
 use Rattle.k42_mediator.proofs.RowGiven.{last_ready, gives_next, nothing_left}
 use Rattle.k42_runtime.specs.Systems.{any_layouts}
 use Rattle.k42_runtime.proofs.cells.give_back.Goals as goal
+use Rattle.k42_kinds.specs.declared.operation.Op.{Op}
+use Rattle.k42_kinds.specs.declared.operation.Reply.{Reply}
 
 pub give_next-requires-clause-ready : goal.give_next-requires-clause-ready
 give_next-requires-clause-ready c =
@@ -26,7 +28,7 @@ returns-clause-comes c =
     let none : c.loop-cell.cells.items ≡ [] = nothing_left c.loop-cell.cells.items (sym c.loop-cell.cells.ok.0 ∙ c.in_default.ensures.cases.0) in
     record {
       knows =
-          sym (released_none view c.loop-cell.invariant.back) ∙ ap (λ (xs : List (Content _)). released (numbers_of xs) view) (sym none)
+          sym (released_none view c.loop-cell.invariant.back) ∙ ap (λ (xs : List (Content _ Op Reply)). released (numbers_of xs) view) (sym none)
           ∙ c.loop-cell.invariant.released_is;
       log = c.loop-cell.invariant.log;
     }

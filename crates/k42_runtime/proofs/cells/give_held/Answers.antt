@@ -14,8 +14,10 @@ use Rattle.k42_mediator.proofs.Remaining.{none_remains}
 use Rattle.k42_mediator.proofs.SamePass.{same_twice}
 use Rattle.k42_runtime.specs.Systems.{any_layouts}
 use Rattle.k42_runtime.proofs.cells.give_held.Goals as goal
+use Rattle.k42_kinds.specs.declared.operation.Op.{Op}
+use Rattle.k42_kinds.specs.declared.operation.Reply.{Reply}
 
-may_put_held : {S L P : Type 0} (F : Layouts S L P) (declared : List L) (id n : ℕ) (v : PassView P) (held : Option (Content P))
+may_put_held : {S L P : Type 0} (F : Layouts S L P Op Reply) (declared : List L) (id n : ℕ) (v : PassView P Op Reply) (held : Option (Content P Op Reply))
     → IsSomeAnd held (λ cell. cell.number ≡ n) → IsSomeAnd held (MayPutBack F declared id v) → IsSomeAnd held (λ cell. MayPut F declared id n cell v)
 may_put_held F declared id n v None number ready = absurd ready
 may_put_held F declared id n v (Some cell) number ready =
@@ -38,8 +40,8 @@ unlock-requires-after_bounds c κs =
       ours = put.same.table ∙ c.requires.ours;
       may = record {
         cell = subst (λ m. m < CELLS) number one.2.cell;
-        held = ap (λ (w : PassView _). names w.taker.held n) put.back.knows ∙ ap (names v.taker.held) (sym number) ∙ one.2.holds;
-        home = ap (λ (w : PassView _). names (cells_noted w.notes) n) put.back.knows ∙ none_remains cell_in n v.notes;
+        held = ap (λ (w : PassView _ Op Reply). names w.taker.held n) put.back.knows ∙ ap (names v.taker.held) (sym number) ∙ one.2.holds;
+        home = ap (λ (w : PassView _ Op Reply). names (cells_noted w.notes) n) put.back.knows ∙ none_remains cell_in n v.notes;
       };
     }
 

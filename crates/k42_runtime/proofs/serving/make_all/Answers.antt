@@ -1,4 +1,6 @@
 use Rattle.std.proofs.Common.{◌≡◌, ◌≤◌, ℕ, ◌++◌, List, length, take, drop, sym, ap, ◌∙◌, subst, arith}
+use Rattle.k42_kinds.specs.declared.operation.Op.{Op}
+use Rattle.k42_kinds.specs.declared.operation.Reply.{Reply}
 use Rattle.k42_kinds.specs.declared.entry.Act.TheVariants.{Call}
 use Rattle.k42_kinds.specs.declared.entry.Answer.TheVariants.{Replied}
 use Rattle.k42_kinds.specs.declared.entry.Reach.TheVariants.{All}
@@ -34,7 +36,7 @@ step_row-requires-clause-row c =
     let agrees = watched_agrees in
     let layout = c.args.layout.now in let v = c.args.pass.now.view in let op = c.args.op.now in let items = c.args.cells.now.items in
     let has = c.requires.has in let is = c.procs-procs.ensures.is in let few : procs ≤ 8 = subst (λ k. k ≤ 8) is c.procs-procs.ensures.few in
-    subst (λ (z : ℕ × List (Content _)). MayStepRow (F.ways_of layout) z.0 (F.Whole layout) (parts_from (F.ways_of layout) z.0 0 z.1) op)
+    subst (λ (z : ℕ × List (Content _ Op Reply)). MayStepRow (F.ways_of layout) z.0 (F.Whole layout) (parts_from (F.ways_of layout) z.0 0 z.1) op)
     (λ j. (sym is j, sym c.as_mut_slice.ensures.value j)) (may_step F laws declared agrees v layout All op items has few).1
 
 pub returns-in_default-clause-may : goal.returns-in_default-clause-may
@@ -56,7 +58,7 @@ draw_call-requires-clause-may c κs =
     let has = c.requires.has in let is = c.procs-procs.ensures.is in let few : procs ≤ 8 = subst (λ k. k ≤ 8) is c.procs-procs.ensures.few in
     let reply = c.in-Ok.replied in let new = c.step_row.new.cells in
     let made : HasSteppedCells (F.ways_of layout) procs op All reply items new =
-    subst (λ (z : ℕ × List (Content _)). HasSteppedCells (F.ways_of layout) z.0 op All reply z.1 new) (λ j. (is j, c.as_mut_slice.ensures.value j)) (c.in-Ok.ensures.replied, c.in-Ok.ensures.moved) in
+    subst (λ (z : ℕ × List (Content _ Op Reply)). HasSteppedCells (F.ways_of layout) z.0 op All reply z.1 new) (λ j. (is j, c.as_mut_slice.ensures.value j)) (c.in-Ok.ensures.replied, c.in-Ok.ensures.moved) in
     let cells = take c.args.cells.now.len (new ++ drop (length new) items) in
     let back : cells ≡ new =
     written_back new items c.args.cells.now.len (long_stepped F laws declared agrees v layout All op items has few reply new made) c.args.cells.now.ok.0 in
@@ -70,7 +72,7 @@ returns-clause-numbers c =
     let has = c.requires.has in let is = c.procs-procs.ensures.is in let few : procs ≤ 8 = subst (λ k. k ≤ 8) is c.procs-procs.ensures.few in
     let reply = c.in-Ok.replied in let new = c.step_row.new.cells in
     let made : HasSteppedCells (F.ways_of layout) procs op All reply items new =
-    subst (λ (z : ℕ × List (Content _)). HasSteppedCells (F.ways_of layout) z.0 op All reply z.1 new) (λ j. (is j, c.as_mut_slice.ensures.value j)) (c.in-Ok.ensures.replied, c.in-Ok.ensures.moved) in
+    subst (λ (z : ℕ × List (Content _ Op Reply)). HasSteppedCells (F.ways_of layout) z.0 op All reply z.1 new) (λ j. (is j, c.as_mut_slice.ensures.value j)) (c.in-Ok.ensures.replied, c.in-Ok.ensures.moved) in
     let cells = take c.args.cells.now.len (new ++ drop (length new) items) in
     let back : cells ≡ new =
     written_back new items c.args.cells.now.len (long_stepped F laws declared agrees v layout All op items has few reply new made) c.args.cells.now.ok.0 in
@@ -85,7 +87,7 @@ returns-clause-may c =
     let has = c.requires.has in let is = c.procs-procs.ensures.is in let few : procs ≤ 8 = subst (λ k. k ≤ 8) is c.procs-procs.ensures.few in
     let reply = c.in-Ok.replied in let new = c.step_row.new.cells in
     let made : HasSteppedCells (F.ways_of layout) procs op All reply items new =
-    subst (λ (z : ℕ × List (Content _)). HasSteppedCells (F.ways_of layout) z.0 op All reply z.1 new) (λ j. (is j, c.as_mut_slice.ensures.value j)) (c.in-Ok.ensures.replied, c.in-Ok.ensures.moved) in
+    subst (λ (z : ℕ × List (Content _ Op Reply)). HasSteppedCells (F.ways_of layout) z.0 op All reply z.1 new) (λ j. (is j, c.as_mut_slice.ensures.value j)) (c.in-Ok.ensures.replied, c.in-Ok.ensures.moved) in
     let cells = take c.args.cells.now.len (new ++ drop (length new) items) in
     let back : cells ≡ new =
     written_back new items c.args.cells.now.len (long_stepped F laws declared agrees v layout All op items has few reply new made) c.args.cells.now.ok.0 in
@@ -93,9 +95,9 @@ returns-clause-may c =
     let w = took steps.Draw (lock_word (first_cell (numbers_of new))) 0 (drawn_at new (entry_call v (numbers_of new) (Call op) (Replied reply)) v) in
     let knows : view ≡ w =
     c.draw_call.ensures.drawn.knows
-    ∙ ap (λ (xs : List (Content _)). took steps.Draw (lock_word (first_cell (numbers_of xs))) 0 (drawn_at xs (entry_call v (numbers_of xs) (Call op) (Replied reply)) v)) back in
+    ∙ ap (λ (xs : List (Content _ Op Reply)). took steps.Draw (lock_word (first_cell (numbers_of xs))) 0 (drawn_at xs (entry_call v (numbers_of xs) (Call op) (Replied reply)) v)) back in
     let told : AreTold w.notes new c.draw_call.new.cells.items =
-    subst (λ (z : PassView _ × List (Content _)). AreTold z.0.notes z.1 c.draw_call.new.cells.items) (λ j. (knows j, back j)) c.draw_call.ensures.told in
+    subst (λ (z : PassView _ Op Reply × List (Content _ Op Reply)). AreTold z.0.notes z.1 c.draw_call.new.cells.items) (λ j. (knows j, back j)) c.draw_call.ensures.told in
     subst (λ x. MayGiveBack F declared c.draw_call.new.pass.seat x c.draw_call.new.cells.items) (sym knows)
     (may_give_drawn F laws declared agrees v layout All op items has few reply new made c.draw_call.new.pass.seat w.log c.draw_call.new.cells.items told)
 
@@ -107,7 +109,7 @@ returns-clause-makes c =
     let has = c.requires.has in let is = c.procs-procs.ensures.is in let few : procs ≤ 8 = subst (λ k. k ≤ 8) is c.procs-procs.ensures.few in
     let reply = c.in-Ok.replied in let new = c.step_row.new.cells in
     let made : HasSteppedCells (F.ways_of layout) procs op All reply items new =
-    subst (λ (z : ℕ × List (Content _)). HasSteppedCells (F.ways_of layout) z.0 op All reply z.1 new) (λ j. (is j, c.as_mut_slice.ensures.value j)) (c.in-Ok.ensures.replied, c.in-Ok.ensures.moved) in
+    subst (λ (z : ℕ × List (Content _ Op Reply)). HasSteppedCells (F.ways_of layout) z.0 op All reply z.1 new) (λ j. (is j, c.as_mut_slice.ensures.value j)) (c.in-Ok.ensures.replied, c.in-Ok.ensures.moved) in
     let cells = take c.args.cells.now.len (new ++ drop (length new) items) in
     let back : cells ≡ new =
     written_back new items c.args.cells.now.len (long_stepped F laws declared agrees v layout All op items has few reply new made) c.args.cells.now.ok.0 in
@@ -115,6 +117,6 @@ returns-clause-makes c =
     let w = took steps.Draw (lock_word (first_cell (numbers_of new))) 0 (drawn_at new (entry_call v (numbers_of new) (Call op) (Replied reply)) v) in
     let knows : view ≡ w =
     c.draw_call.ensures.drawn.knows
-    ∙ ap (λ (xs : List (Content _)). took steps.Draw (lock_word (first_cell (numbers_of xs))) 0 (drawn_at xs (entry_call v (numbers_of xs) (Call op) (Replied reply)) v)) back in
+    ∙ ap (λ (xs : List (Content _ Op Reply)). took steps.Draw (lock_word (first_cell (numbers_of xs))) 0 (drawn_at xs (entry_call v (numbers_of xs) (Call op) (Replied reply)) v)) back in
     has_made F laws declared agrees v layout All op items has few reply new made (lock_word (first_cell (numbers_of new))) view
-    (later_stamp v (numbers_of new) c.draw_call.result (c.draw_call.ensures.stamp ∙ ap (λ (xs : List (Content _)). stamp_next v (numbers_of xs)) back) c.draw_call.ensures.later) knows
+    (later_stamp v (numbers_of new) c.draw_call.result (c.draw_call.ensures.stamp ∙ ap (λ (xs : List (Content _ Op Reply)). stamp_next v (numbers_of xs)) back) c.draw_call.ensures.later) knows

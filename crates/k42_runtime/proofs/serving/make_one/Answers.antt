@@ -1,5 +1,7 @@
 use Rattle.std.proofs.Common.{◌≡◌, ◌<◌, ◌≤◌, ℕ, [], ◌∷◌, refl, sym, ap, ◌∙◌, subst}
 use Rattle.k42_kinds.specs.LayoutLaws.{IsReached}
+use Rattle.k42_kinds.specs.declared.operation.Op.{Op}
+use Rattle.k42_kinds.specs.declared.operation.Reply.{Reply}
 use Rattle.k42_kinds.specs.declared.entry.Act.TheVariants.{Call}
 use Rattle.k42_kinds.specs.declared.entry.Answer.TheVariants.{Replied}
 use Rattle.k42_kinds.specs.declared.entry.Reach.TheVariants.{One}
@@ -48,11 +50,11 @@ draw_one-requires-clause-may c κs =
     let reply = c.step_part.new.reply in let new = c.step_part.new.cell in
     let made : HasSteppedCells (F.ways_of layout) procs op (One p) reply (cell ∷ []) (new ∷ []) =
     subst (λ (k : ℕ). HasSteppedCells (F.ways_of layout) k op (One p) reply (cell ∷ []) (new ∷ [])) is
-    (c.in-Ok.ensures.replied, ap (λ (x : Content _). x ∷ []) c.in-Ok.ensures.moved) in
+    (c.in-Ok.ensures.replied, ap (λ (x : Content _ Op Reply). x ∷ []) c.in-Ok.ensures.moved) in
     may_draw F laws declared watched_agrees v layout (One p) op (cell ∷ []) has few reply (new ∷ []) made c.requires.few
 
 pub returns-clause-number : goal.returns-clause-number
-returns-clause-number c = c.draw_one.ensures.told.number ∙ ap (λ (x : Content _). x.number) c.in-Ok.ensures.moved
+returns-clause-number c = c.draw_one.ensures.told.number ∙ ap (λ (x : Content _ Op Reply). x.number) c.in-Ok.ensures.moved
 
 pub returns-clause-may : goal.returns-clause-may
 returns-clause-may c =
@@ -62,11 +64,11 @@ returns-clause-may c =
     let reply = c.step_part.new.reply in let new = c.step_part.new.cell in
     let made : HasSteppedCells (F.ways_of layout) procs op (One p) reply (cell ∷ []) (new ∷ []) =
     subst (λ (k : ℕ). HasSteppedCells (F.ways_of layout) k op (One p) reply (cell ∷ []) (new ∷ [])) is
-    (c.in-Ok.ensures.replied, ap (λ (x : Content _). x ∷ []) c.in-Ok.ensures.moved) in
+    (c.in-Ok.ensures.replied, ap (λ (x : Content _ Op Reply). x ∷ []) c.in-Ok.ensures.moved) in
     let w = took steps.Draw (lock_word new.number) 0 (drawn_at (new ∷ []) (entry_call v (new.number ∷ []) (Call op) (Replied reply)) v) in
     let after = c.draw_one.new.cell in let knows : c.draw_one.new.pass.view ≡ w = c.draw_one.ensures.drawn.knows in
-    let told = told_alone w.notes new after (subst (λ (x : PassView _). IsTold x.notes new after) knows c.draw_one.ensures.told) in
-    subst (λ (x : PassView _). MayPutBack F declared c.draw_one.new.pass.seat x after) (sym knows)
+    let told = told_alone w.notes new after (subst (λ (x : PassView _ Op Reply). IsTold x.notes new after) knows c.draw_one.ensures.told) in
+    subst (λ (x : PassView _ Op Reply). MayPutBack F declared c.draw_one.new.pass.seat x after) (sym knows)
     ((may_give_drawn F laws declared watched_agrees v layout (One p) op (cell ∷ []) has few reply (new ∷ []) made c.draw_one.new.pass.seat w.log (after ∷ []) told).ready 0 after refl)
 
 pub returns-clause-makes : goal.returns-clause-makes
@@ -77,6 +79,6 @@ returns-clause-makes c =
     let reply = c.step_part.new.reply in let new = c.step_part.new.cell in
     let made : HasSteppedCells (F.ways_of layout) procs op (One p) reply (cell ∷ []) (new ∷ []) =
     subst (λ (k : ℕ). HasSteppedCells (F.ways_of layout) k op (One p) reply (cell ∷ []) (new ∷ [])) is
-    (c.in-Ok.ensures.replied, ap (λ (x : Content _). x ∷ []) c.in-Ok.ensures.moved) in
+    (c.in-Ok.ensures.replied, ap (λ (x : Content _ Op Reply). x ∷ []) c.in-Ok.ensures.moved) in
     has_made F laws declared watched_agrees v layout (One p) op (cell ∷ []) has few reply (new ∷ []) made (lock_word new.number) c.draw_one.new.pass.view
     (later_stamp v (new.number ∷ []) c.draw_one.result c.draw_one.ensures.stamp c.draw_one.ensures.later) c.draw_one.ensures.drawn.knows

@@ -7,6 +7,8 @@ use Rattle.k42_runtime.specs.Stepping.{row_behind}
 use Rattle.k42_runtime.specs.Systems.{ways_in}
 use Rattle.k42_runtime.proofs.CallStepped.{set_behind, own_behind, on_ok_3, on_err_3}
 use Rattle.k42_runtime.proofs.stepping.+step_behind.Goals as goal
+use Rattle.k42_kinds.specs.declared.operation.Op.{Op}
+use Rattle.k42_kinds.specs.declared.operation.Reply.{Reply}
 
 pub returns-clause-cells : goal.returns-clause-cells
 returns-clause-cells t c =
@@ -32,7 +34,7 @@ returns-clause-cells t c =
     subst (λ cs. c.settle.new.cell ∷ c.step_behind-reply.new.cells ≡ filled (drop k row) cs) (sym c.in-Some.ensures.cases.0)
     (set_behind k (length all) c.step_behind-reply.new.parts.len row back c.pop.new.self.items c.pop.result cell c.settle.new.cell others c.step_behind-reply.new.cells
     within long (kept ∙ ap (take (length all)) same) c.step_behind-reply.new.parts.ok.0 c.pop.ensures.variant.1 c.pop.ensures.items
-    (set ∙ ap (λ (z : Content _). record z { part = c.pop.result }) c.in_ok-part.ensures.lifted) (rest ∙ ap (λ ys. filled (drop (length all) ys) others) same)))
+    (set ∙ ap (λ (z : Content _ Op Reply). record z { part = c.pop.result }) c.in_ok-part.ensures.lifted) (rest ∙ ap (λ ys. filled (drop (length all) ys) others) same)))
     c.step_behind-reply.ensures.parts c.settle.ensures.made c.step_behind-reply.ensures.cells
 
 pub returns-clause-cells_kept : goal.returns-clause-cells_kept

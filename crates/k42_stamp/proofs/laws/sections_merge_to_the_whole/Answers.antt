@@ -2,4 +2,4 @@ use Rattle.k42_stamp.proofs.MergedSections.{sections_merged}
 use Rattle.k42_stamp.proofs.laws.sections_merge_to_the_whole.Goals as goal
 
 pub returns : goal.returns
-returns c = sections_merged
+returns g c = sections_merged

@@ -2,4 +2,4 @@ use Rattle.std.proofs.Common.{length}
 use Rattle.k42_stamp.proofs.merging.+total_of.Given as goal
 
 abbrev pub decreases-total_of : goal.decreases-total_of
-decreases-total_of l = length l.lists.now
+decreases-total_of g l = length l.lists.now

@@ -4,7 +4,7 @@ use Rattle.k42_stamp.proofs.NextEntries.{taken_there, one_fewer, has_moved}
 use Rattle.k42_stamp.proofs.merging.move_next.Goals as goal
 
 pub push_reserved-requires : goal.push_reserved-requires
-push_reserved-requires c =
+push_reserved-requires g c =
     let lists = c.args.rests.now.items in
     let place = c.in-Some.place in
     let next : IsNext lists place c.in-Some.field-0-1.now = search rules in
@@ -12,7 +12,7 @@ push_reserved-requires c =
     omega (arith, one_fewer lists place c.pop.result c.pop.new.self there, c.requires.room)
 
 pub returns-clause-room : goal.returns-clause-room
-returns-clause-room c =
+returns-clause-room g c =
     let lists = c.args.rests.now.items in
     let place = c.in-Some.place in
     let next : IsNext lists place c.in-Some.field-0-1.now = search rules in
@@ -20,7 +20,7 @@ returns-clause-room c =
     omega (arith, one_fewer lists place c.pop.result c.pop.new.self there, c.push_reserved.ensures.len)
 
 pub returns-clause-fewer : goal.returns-clause-fewer
-returns-clause-fewer c = λ yes.
+returns-clause-fewer g c = λ yes.
     let lists = c.args.rests.now.items in
     let place = c.in-Some.place in
     let next : IsNext lists place c.in-Some.field-0-1.now = search rules in
@@ -28,7 +28,7 @@ returns-clause-fewer c = λ yes.
     one_fewer lists place c.pop.result c.pop.new.self there
 
 pub returns-clause-moved : goal.returns-clause-moved
-returns-clause-moved c = λ yes.
+returns-clause-moved g c = λ yes.
     let lists = c.args.rests.now.items in
     let place = c.in-Some.place in
     let next : IsNext lists place c.in-Some.field-0-1.now = search rules in

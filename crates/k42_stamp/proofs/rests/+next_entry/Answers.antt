@@ -5,7 +5,7 @@ use Rattle.k42_stamp.proofs.NextEntries.{begins, next_alone, next_stays, next_la
 use Rattle.k42_stamp.proofs.rests.+next_entry.Goals as goal
 
 pub returns-in-Some-None-clause-next : goal.returns-in-Some-None-clause-next
-returns-in-Some-None-clause-next t c =
+returns-in-Some-None-clause-next g t c =
     let entry = c.in-Some-None.entry.now in
     let all : c.args.rests.now ≡ c.in_ok-rest.rest.now ∷ c.in_ok-rest.others.now = search rules in
     let at : slice_get c.in_ok-rest.rest.now 0 ≡ Some entry = search rules in
@@ -13,7 +13,7 @@ returns-in-Some-None-clause-next t c =
     rw (all, list.1) (next_alone entry list.0 c.in_ok-rest.others.now (search rules))
 
 pub returns-then-is_before-clause-next : goal.returns-then-is_before-clause-next
-returns-then-is_before-clause-next t c =
+returns-then-is_before-clause-next g t c =
     let entry = c.in-Some-Some.entry.now in
     let all : c.args.rests.now ≡ c.in_ok-rest.rest.now ∷ c.in_ok-rest.others.now = search rules in
     let at : slice_get c.in_ok-rest.rest.now 0 ≡ Some entry = search rules in
@@ -21,7 +21,7 @@ returns-then-is_before-clause-next t c =
     rw (all, list.1) (next_later entry c.in-Some-Some.other.now list.0 c.in_ok-rest.others.now c.in-Some-Some.place (search rules) (search rules))
 
 pub returns-else-is_before-clause-next : goal.returns-else-is_before-clause-next
-returns-else-is_before-clause-next t c =
+returns-else-is_before-clause-next g t c =
     let entry = c.in-Some-Some.entry.now in
     let all : c.args.rests.now ≡ c.in_ok-rest.rest.now ∷ c.in_ok-rest.others.now = search rules in
     let at : slice_get c.in_ok-rest.rest.now 0 ≡ Some entry = search rules in

@@ -1,5 +1,7 @@
 use Rattle.std.proofs.Common.{ℕ}
 use Rattle.std.specs.Prelude.{All}
+use Rattle.k42_kinds.specs.declared.operation.Op.{Op}
+use Rattle.k42_kinds.specs.declared.operation.Reply.{Reply}
 use Rattle.k42_kinds.specs.declared.entry.Entry.{Entry}
 use Rattle.script_text.specs.Lawful.{IsLawful}
 use Rattle.record_text.specs.Histories.{record_of}
@@ -18,4 +20,4 @@ pub returns-clause-recorded : goal.returns-clause-recorded
 returns-clause-recorded c = where_ok (λ (history : HistorySeen). IsRunOf c.args.script.now history.entries) (λ history. (version : ℕ) → IsLawfulRecord c.args.script.now (record_of c.args.script.now history.entries version)) (λ history run. judged_lawful c.args.script.now history.entries run) c.closed.result c.closed.ensures.closed
 
 pub returns-clause-generations : goal.returns-clause-generations
-returns-clause-generations c = where_ok (λ (history : HistorySeen). IsRunOf c.args.script.now history.entries) (λ history. All (λ (entry : Entry). HasGeneration entry.act entry.generation) history.entries) (λ history run. generations c.args.script.now history.entries run) c.closed.result c.closed.ensures.closed
+returns-clause-generations c = where_ok (λ (history : HistorySeen). IsRunOf c.args.script.now history.entries) (λ history. All (λ (entry : Entry Op Reply). HasGeneration entry.act entry.generation) history.entries) (λ history run. generations c.args.script.now history.entries run) c.closed.result c.closed.ensures.closed

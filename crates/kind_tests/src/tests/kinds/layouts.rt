@@ -20,6 +20,10 @@ struct LastAmount;
 impl Kind for LastAmount {
     type State = u64;
 
+    type Op = Op;
+
+    type Reply = Reply;
+
     ghost object = { λ _. last_amount };
 
     fn empty(&self, _alloc: Global) -> u64 {
@@ -93,7 +97,7 @@ impl Layout for LastAmount {
         state
     }
 
-    fn act(&self) -> Act {
+    fn act(&self) -> Act<Op> {
         Act::Swap(To::Layout(LayoutName::Shared))
     }
 

@@ -1,6 +1,6 @@
 //! Long lists of events, each with whether it is possible, and the states to which they come.
 use super::{Asked, astray};
-use k42_kinds::Entry;
+use k42_kinds::{Entry, Op, Reply};
 use std::test::Fail;
 use turn_core::*;
 
@@ -9,14 +9,14 @@ use turn_core::*;
 type Shown = (Option<u32>, bool, bool, u32, usize, u64, usize);
 
 /// The stamp of the last of these entries, 0 where there is none.
-fn last_stamp(entries: &[Entry]) -> u64 {
+fn last_stamp(entries: &[Entry<Op, Reply>]) -> u64 {
     match entries.last() {
         None => 0,
         Some(entry) => entry.stamp,
     }
 }
 
-fn shown(cell: &TurnCell) -> Shown {
+fn shown(cell: &TurnCell<Op, Reply>) -> Shown {
     (
         cell.lock,
         cell.home,
@@ -29,7 +29,7 @@ fn shown(cell: &TurnCell) -> Shown {
 }
 
 /// Of a caller how many cells it holds, and how many entries it has.
-fn held_and_drawn(caller: &TurnCaller) -> (usize, usize) {
+fn held_and_drawn(caller: &TurnCaller<Op, Reply>) -> (usize, usize) {
     (caller.held.len(), caller.mine.len())
 }
 

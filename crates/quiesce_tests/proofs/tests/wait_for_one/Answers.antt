@@ -29,8 +29,8 @@ returns g c =
         reclaimed_free sys c.step-3.new.pass c.reclaim.new.pass later c.reclaim.ensures.same c.reclaim.ensures.knows,
         record {
           ours = c.step-2.ensures.ours;
-          held = ap (λ (v : PassView _). v.taker.held) tried ∙ c.requires.free.2.held;
-          notes = ap (λ (v : PassView _). v.notes) tried ∙ c.requires.free.2.notes;
+          held = ap (λ (v : PassView _ _ _). v.taker.held) tried ∙ c.requires.free.2.held;
+          notes = ap (λ (v : PassView _ _ _). v.notes) tried ∙ c.requires.free.2.notes;
         },
       );
     }

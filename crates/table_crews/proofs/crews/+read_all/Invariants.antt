@@ -2,4 +2,4 @@ use Rattle.std.proofs.Common.{length}
 use Rattle.table_crews.proofs.crews.+read_all.Given as goal
 
 abbrev pub decreases-read_all : goal.decreases-read_all
-decreases-read_all l = length l.logs.now
+decreases-read_all g l = length l.logs.now

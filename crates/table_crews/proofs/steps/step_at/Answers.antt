@@ -59,7 +59,7 @@ draw_call-stamp-requires-clause-may g c κs inside_lifetimes =
     let items : c.push_reserved.new.self.items ≡ record content { part = Some after } ∷ [] = c.push_reserved.ensures.items ∙ (λ k. c.in_ok-cells.ensures.items k ++ moved k ∷ []) in
     let replied =
     subst (λ (k : ℕ). c.in_ok-reply.reply ≡ (g.L.Layout.ways layout).part_reply (unwrap_or content.part ((g.L.Layout.ways layout).empty k p)) op) count c.in_ok-reply.ensures.replied in
-    let mine : length w.taker.mine ≡ length v.taker.mine = ap (λ (x : PassView _). length x.taker.mine) e ∙ ap length (mine_stays n c.lock.result v) in
+    let mine : length w.taker.mine ≡ length v.taker.mine = ap (λ (x : PassView _ _ _). length x.taker.mine) e ∙ ap length (mine_stays n c.lock.result v) in
     let few : length w.taker.mine < PASS_ENTRIES = grind (arith, nat_tests, c.if-drawn-ge-PASS_ENTRIES.false, mine, c.drawn.ensures) in
     subst (λ cells. MayDrawCall F c.args.sys.now.layouts cells op c.in_ok-reply.reply w) (sym items)
     (may_draw F laws c.args.sys.now.layouts met.agrees content (lifted_at n c.lock.new.pass.view) w c.take-cell.ensures.moved.back.knows layout op inside.object inside.incarnation p is c.take-cell.ensures.number
@@ -91,7 +91,7 @@ put-requires-clause-may g c κs inside_lifetimes =
     let few : content.number < CELLS = omega (arith, number, object, most, count, there) in
     let cells = numbers_of c.push_reserved.new.self.items in let word : ℕ = lock_word (first_cell cells) in
     let entry = entry_call w cells (Call op) (Replied c.in_ok-reply.reply) in
-    let draws = λ (x : PassView _). took steps.Draw word 0 (drawn_at (record content { part = Some after } ∷ []) entry x) in
+    let draws = λ (x : PassView _ _ _). took steps.Draw word 0 (drawn_at (record content { part = Some after } ∷ []) entry x) in
     let u = c.draw_call-stamp.new.pass in
     let known : u.view ≡ draws w = c.draw_call-stamp.ensures.drawn.knows ∙ (λ k. took steps.Draw word 0 (drawn_at (items k) entry w)) in
     subst (λ (n : ℕ). MayPut F c.args.sys.now.layouts u.seat n c.in-Some.cell u.view) number

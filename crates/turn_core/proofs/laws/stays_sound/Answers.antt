@@ -2,4 +2,4 @@ use Rattle.turn_core.proofs.Reached.{reached-sound}
 use Rattle.turn_core.proofs.laws.stays_sound.Goals as goal
 
 pub returns : goal.returns
-returns c s reached = reached-sound s reached
+returns g c s reached = reached-sound s reached

@@ -5,6 +5,6 @@ use Rattle.k42_journal.proofs.Merges.{length-merged_from}
 use Rattle.k42_journal.proofs.journal.Journal.len.Goals as goal
 
 pub returns : goal.returns
-returns c =
+returns g c =
     let journal = c.self.inside in
     rw (← c.self.view_is, length-merged_from journal.first (lists_of journal.logs.items)) (c.total_of.ensures ∙ ap (λ logs. entries_in (lists_of logs)) c.as_slice.ensures.value)

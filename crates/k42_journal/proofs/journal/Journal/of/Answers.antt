@@ -3,4 +3,4 @@ use Rattle.k42_journal.proofs.Merges.{merges}
 use Rattle.k42_journal.proofs.journal.Journal.of.Goals as goal
 
 pub returns : goal.returns
-returns c = merges c.args.first (lists_of c.args.logs.items) c.requires.lists
+returns g c = merges c.args.first (lists_of c.args.logs.items) c.requires.lists

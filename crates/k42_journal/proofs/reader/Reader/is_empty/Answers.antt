@@ -4,7 +4,7 @@ use Rattle.k42_journal.proofs.Queueing.{empty_queue}
 use Rattle.k42_journal.proofs.reader.Reader.is_empty.Goals as goal
 
 pub returns : goal.returns
-returns c =
+returns g c =
     let lists = c.self.inside.unread.items in
     let queue = c.self.inside.queue in
     rw (← c.self.view_is)

@@ -4,7 +4,7 @@ use Rattle.k42_journal.specs.Queues.{IsQueueOf}
 use Rattle.k42_journal.proofs.reader.Reader.of.Given as goal
 
 abbrev pub invariant-loop-log : goal.invariant-loop-log
-invariant-loop-log l = record {
+invariant-loop-log g l = record {
   lists : l.unread.items ≡ lists_of (take l.log-index l.logs);
   queue : IsQueueOf l.unread.items l.queue.items;
   few : vec_len l.queue ≤ l.log-index;

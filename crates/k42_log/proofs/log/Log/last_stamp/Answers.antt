@@ -5,7 +5,7 @@ use Rattle.k42_log.proofs.Pushed.{stamp_seen}
 use Rattle.k42_log.proofs.log.Log.last_stamp.Goals as goal
 
 pub returns-in-Some : goal.returns-in-Some
-returns-in-Some c =
+returns-in-Some g c =
     rw (← c.self.view_is)
     (ap head_stamp (c.in-Some.ensures.value ∙ ap (λ heads. slice_get heads (length heads - 1)) c.deref.ensures.value)
-    ∙ stamp_seen c.self.inside)
+    ∙ stamp_seen g.O.Packed.packing g.R.Packed.packing c.self.inside)

@@ -2,7 +2,7 @@ use Rattle.std.proofs.Common.{◌≡◌, ◌++◌, length}
 use Rattle.k42_log.proofs.unread.Unread.collect.Given as goal
 
 abbrev pub invariant-loop-entry : goal.invariant-loop-entry
-invariant-loop-entry l = l.list.items ++ l.self ≡ l.initial.self
+invariant-loop-entry g l = l.list.items ++ l.self ≡ l.initial.self
 
 abbrev pub decreases-loop-entry : goal.decreases-loop-entry
-decreases-loop-entry l = length l.self
+decreases-loop-entry g l = length l.self

@@ -37,12 +37,12 @@ returns-in-None-clause-goes g c role =
       | then-is_none+in_default w ↦
           let none : c.args.self.now ≡ None = none_of c.self.inside.holder _ c.is_none.result c.is_none.ensures w.if-is_none.true c.self.view_is in
           let goes = w.begin.ensures.goes w.in_default.is in
-          subst (λ (p : PassSeen _). HasRole c.args.self.now c.args.pass.now.view p.view) (sym w.pass-is) (role_begun _ _ _ none goes.0 goes.1)
+          subst (λ (p : PassSeen _ _ _). HasRole c.args.self.now c.args.pass.now.view p.view) (sym w.pass-is) (role_begun _ _ _ none goes.0 goes.1)
       | else-is_none w ↦
-          subst (λ (p : PassSeen _). HasRole c.args.self.now c.args.pass.now.view p.view) (sym w.pass-is)
+          subst (λ (p : PassSeen _ _ _). HasRole c.args.self.now c.args.pass.now.view p.view) (sym w.pass-is)
           (role_kept _ _ (some_of c.self.inside.holder _ c.is_none.result c.is_none.ensures w.if-is_none.false c.self.view_is) c.requires.may)
     ] in
-    let number = ap (λ (v : PassView _). v.number) c.look_on.ensures.goes.rest in (
+    let number = ap (λ (v : PassView _ _ _). v.number) c.look_on.ensures.goes.rest in (
       role_goes _ _ _ _ has c.look_on.ensures.goes,
       search rules,
     )
@@ -60,9 +60,9 @@ returns-in-Some-look_on-clause-left g c proc left same =
       | then-is_none+in_default w ↦
           let none : c.args.self.now ≡ None = none_of c.self.inside.holder _ c.is_none.result c.is_none.ensures w.if-is_none.true c.self.view_is in
           let goes = w.begin.ensures.goes w.in_default.is in
-          subst (λ (p : PassSeen _). HasRole c.args.self.now c.args.pass.now.view p.view) (sym w.pass-is) (role_begun _ _ _ none goes.0 goes.1)
+          subst (λ (p : PassSeen _ _ _). HasRole c.args.self.now c.args.pass.now.view p.view) (sym w.pass-is) (role_begun _ _ _ none goes.0 goes.1)
       | else-is_none w ↦
-          subst (λ (p : PassSeen _). HasRole c.args.self.now c.args.pass.now.view p.view) (sym w.pass-is)
+          subst (λ (p : PassSeen _ _ _). HasRole c.args.self.now c.args.pass.now.view p.view) (sym w.pass-is)
           (role_kept _ _ (some_of c.self.inside.holder _ c.is_none.result c.is_none.ensures w.if-is_none.false c.self.view_is) c.requires.may)
     ] in
     role_left _ _ _ _ has proc left
@@ -81,12 +81,12 @@ returns-in-Some-look_on-clause-goes g c role =
       | then-is_none+in_default w ↦
           let none : c.args.self.now ≡ None = none_of c.self.inside.holder _ c.is_none.result c.is_none.ensures w.if-is_none.true c.self.view_is in
           let goes = w.begin.ensures.goes w.in_default.is in
-          subst (λ (p : PassSeen _). HasRole c.args.self.now c.args.pass.now.view p.view) (sym w.pass-is) (role_begun _ _ _ none goes.0 goes.1)
+          subst (λ (p : PassSeen _ _ _). HasRole c.args.self.now c.args.pass.now.view p.view) (sym w.pass-is) (role_begun _ _ _ none goes.0 goes.1)
       | else-is_none w ↦
-          subst (λ (p : PassSeen _). HasRole c.args.self.now c.args.pass.now.view p.view) (sym w.pass-is)
+          subst (λ (p : PassSeen _ _ _). HasRole c.args.self.now c.args.pass.now.view p.view) (sym w.pass-is)
           (role_kept _ _ (some_of c.self.inside.holder _ c.is_none.result c.is_none.ensures w.if-is_none.false c.self.view_is) c.requires.may)
     ] in
-    let number = ap (λ (v : PassView _). v.number) c.look_on.ensures.goes.rest in (
+    let number = ap (λ (v : PassView _ _ _). v.number) c.look_on.ensures.goes.rest in (
       role_goes _ _ _ _ has c.look_on.ensures.goes,
       search rules,
     )

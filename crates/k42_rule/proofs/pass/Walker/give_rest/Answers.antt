@@ -9,7 +9,7 @@ use Rattle.k42_rule.proofs.pass.Walker.give_rest.Goals as goal
 pub returns-clause-parts : goal.returns-clause-parts
 returns-clause-parts g c =
     let has = c.self.invariant.13 in
-    subst (λ (pass : PassSeen _). HasParts pass) c.self.view_is
+    subst (λ (pass : PassSeen _ _ _). HasParts pass) c.self.view_is
     (record {
       list = subst (λ n. IsListOf n (pass_in c.self.inside.seat.me.0).taker.mine) (ap (λ (o : Own). o.number) c.self.invariant.0.own_is) has.list;
       parted = has.parted;
@@ -31,7 +31,7 @@ invariant_of-self g c =
       old.10,
       old.11,
       old.12,
-      kept_none _ self.number self.home _ self.kept _ self.clock self.drawn (ap (λ (p : PassSeen _). p.keep.what) c.self.view_is ∙ c.requires) old.13 (ap (λ (o : Own). o.drawn) old.0.own_is)
+      kept_none _ self.number self.home _ self.kept _ self.clock self.drawn (ap (λ (p : PassSeen _ _ _). p.keep.what) c.self.view_is ∙ c.requires) old.13 (ap (λ (o : Own). o.drawn) old.0.own_is)
           (c.replace-kept.ensures.after ∙ c.new-log.ensures),
       old.14,
       old.15,

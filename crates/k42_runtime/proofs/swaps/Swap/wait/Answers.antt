@@ -15,6 +15,8 @@ use Rattle.k42_runtime.proofs.RowsReclaimed.{reclaims_alone}
 use Rattle.k42_runtime.proofs.SwapGraces.{held_up, has_role_now}
 use Rattle.k42_runtime.proofs.SwapSteps.{same_caller, stepped_before}
 use Rattle.k42_runtime.proofs.swaps.Swap.wait.Goals as goal
+use Rattle.k42_kinds.specs.declared.operation.Op.{Op}
+use Rattle.k42_kinds.specs.declared.operation.Reply.{Reply}
 
 later : Waiting ≡ New → ⊥
 later e = cc
@@ -38,7 +40,7 @@ returns-in-Again c =
       here = record {
         ours = subst (λ (z : SystemSeen). IsPassOf z.sys new) c.system.view_is c.step.ensures.ours;
         out = ap is_out up.place ∙ c.requires.ours.out;
-        held = ap (λ (x : turns.Caller). x.held) up.taker ∙ c.requires.ours.held;
+        held = ap (λ (x : turns.Caller Op Reply). x.held) up.taker ∙ c.requires.ours.held;
         notes = up.notes ∙ c.requires.ours.notes;
       };
       stage = up.stage;
@@ -52,7 +54,7 @@ returns-in-Again c =
       graces = up.graces;
       told = up.told;
       worn = (λ e. absurd (cc), λ w. absurd (later (sym first ∙ w.0)));
-      brought = (ap (λ (x : turns.Caller). x.mine) up.taker, up.found);
+      brought = (ap (λ (x : turns.Caller Op Reply). x.mine) up.taker, up.found);
     }))
 
 pub returns-in-Quiet : goal.returns-in-Quiet
@@ -69,7 +71,7 @@ returns-in-Quiet c =
     let log : Extends old.view.log mid.view.log =
     extends_on (role_extends s.holder old.view)
     (extends_on goes.log (extends_on (reclaims_alone c.reclaim.ensures.freed)
-    (extends_as (ap (λ (v : PassView _). v.log) blocked) (extends_one _ c.reclaim.new.pass.view.log refl)))) in
+    (extends_as (ap (λ (v : PassView _ Op Reply). v.log) blocked) (extends_one _ c.reclaim.new.pass.view.log refl)))) in
     subst (λ s. HasStepped c.args.system.now c.shut.result s c.shut.new.self old c.shut.new.pass) is
     (stepped_before c.args.system.now s m c.shut.new.self old mid c.shut.new.pass
     (record {
@@ -79,15 +81,15 @@ returns-in-Quiet c =
       keep = c.block.ensures.same.keep ∙ c.reclaim.ensures.same.keep ∙ c.step.ensures.same.keep;
       caller =
           same_caller old.view c.step.new.pass.view mid.view has.caller (record {
-            number = ap (λ (v : PassView _). v.number) blocked ∙ ap (λ (v : PassView _). v.number) reclaimed;
-            proc = ap (λ (v : PassView _). v.turn.proc) blocked ∙ ap (λ (v : PassView _). v.turn.proc) reclaimed;
+            number = ap (λ (v : PassView _ Op Reply). v.number) blocked ∙ ap (λ (v : PassView _ Op Reply). v.number) reclaimed;
+            proc = ap (λ (v : PassView _ Op Reply). v.turn.proc) blocked ∙ ap (λ (v : PassView _ Op Reply). v.turn.proc) reclaimed;
           });
       drawn =
-          ap (λ (v : PassView _). v.taker.mine) blocked ∙ ap (λ (v : PassView _). v.taker.mine) reclaimed
-          ∙ ap (λ (x : turns.Caller). x.mine) has.taker;
+          ap (λ (v : PassView _ Op Reply). v.taker.mine) blocked ∙ ap (λ (v : PassView _ Op Reply). v.taker.mine) reclaimed
+          ∙ ap (λ (x : turns.Caller Op Reply). x.mine) has.taker;
       log = log;
       graces =
-          let n = ap (λ (v : PassView _). v.graces) blocked ∙ ap (λ (v : PassView _). v.graces) reclaimed ∙ has.graces in
+          let n = ap (λ (v : PassView _ Op Reply). v.graces) blocked ∙ ap (λ (v : PassView _ Op Reply). v.graces) reclaimed ∙ has.graces in
           subst (λ stage. mid.view.graces + 0 ≤ old.view.graces + graces_due stage s.holder) (sym first) (omega (arith, n));
       waits = λ e. absurd (cc);
       worn = λ e w. absurd (later (sym first ∙ e));

@@ -1,5 +1,7 @@
 use Rattle.std.proofs.Common.{rules, ◌≡◌, ◌+◌, ◌≤◌, ◌++◌, ℕ, List, length, sym, ap, ◌∙◌, subst, arith}
 use Rattle.k42_limits.specs.declared.TheConstants.{CALLERS}
+use Rattle.k42_kinds.specs.declared.operation.Op.{Op}
+use Rattle.k42_kinds.specs.declared.operation.Reply.{Reply}
 use Rattle.k42_kinds.specs.declared.entry.Entry.{Entry}
 use Rattle.k42_rule.specs.Finishing.{logged_in}
 use Rattle.k42_rule.specs.Sections.{rests_in}
@@ -56,7 +58,7 @@ returns-clause-ok c =
     c.give_section.ensures.logs ∙ (λ j. logged_in (c.in_ok-logs.ensures.items j) ++ rests_in c.args.passes.now) in
     is_section c.args.passes.now c.give_section.new.passes c.of.result (c.given_of-first.result + 1) c.lists_have_a_merge.ensures
     c.sections_merge_to_the_whole.ensures c.give_section.ensures.cut (ap (λ (n : ℕ). n + 1) c.given_of-first.ensures.is)
-    (subst (λ (ls : List (List Entry)). IsMergedFrom (c.given_of-first.result + 1) ls c.of.result) same c.of.ensures) c.give_section.ensures.passes
+    (subst (λ (ls : List (List (Entry Op Reply))). IsMergedFrom (c.given_of-first.result + 1) ls c.of.result) same c.of.ensures) c.give_section.ensures.passes
 
 pub returns-clause-again : goal.returns-clause-again
 returns-clause-again c =

@@ -2,4 +2,4 @@ use Rattle.std.proofs.Common.{length}
 use Rattle.turn_core.proofs.state.TurnState.+begin_all.Given as goal
 
 abbrev pub decreases-begin_all : goal.decreases-begin_all
-decreases-begin_all l = length l.cells.now
+decreases-begin_all g l = length l.cells.now

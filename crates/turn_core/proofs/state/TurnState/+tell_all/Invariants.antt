@@ -2,4 +2,4 @@ use Rattle.std.proofs.Common.{length}
 use Rattle.turn_core.proofs.state.TurnState.+tell_all.Given as goal
 
 abbrev pub decreases-tell_all : goal.decreases-tell_all
-decreases-tell_all l = length l.cells.now
+decreases-tell_all g l = length l.cells.now

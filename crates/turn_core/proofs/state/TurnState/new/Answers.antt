@@ -4,4 +4,4 @@ use Rattle.turn_core.proofs.Fresh.{IsSound-is_fresh}
 use Rattle.turn_core.proofs.state.TurnState.new.Goals as goal
 
 pub returns-clause-sound : goal.returns-clause-sound
-returns-clause-sound c = IsSound-is_fresh _ c.args.lives.items c.args.callers (grind (arith, common_steps))
+returns-clause-sound g c = IsSound-is_fresh _ c.args.lives.items c.args.callers (grind (arith, common_steps))

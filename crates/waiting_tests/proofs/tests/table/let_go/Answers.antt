@@ -7,6 +7,8 @@ use Rattle.phase_core.specs.Stages as swaps
 use Rattle.k42_board.specs.Phases.{is_served}
 use Rattle.k42_board.specs.declared.view.PassView.{PassView}
 use Rattle.waiting_tests.proofs.tests.table.let_go.Goals as goal
+use Rattle.k42_kinds.specs.declared.operation.Op.{Op}
+use Rattle.k42_kinds.specs.declared.operation.Reply.{Reply}
 
 pub returns : goal.returns
 returns c =
@@ -15,20 +17,20 @@ returns c =
       served = record {
         ours = record {
           table = is.same.table ∙ was.ours.table;
-          proc = subst (λ p. p < c.args.system.now.sys.procs) (sym (ap (λ (v : PassView _). v.turn.proc) knows)) was.ours.proc;
-          waits = ap (λ (v : PassView _). length v.turn.waits) knows ∙ was.ours.waits;
-          objects = ap (λ (v : PassView _). length v.visitor.noted) knows ∙ was.ours.objects;
-          spans = ap (λ (v : PassView _). length v.visitor.freeing) knows ∙ was.ours.spans;
+          proc = subst (λ p. p < c.args.system.now.sys.procs) (sym (ap (λ (v : PassView _ Op Reply). v.turn.proc) knows)) was.ours.proc;
+          waits = ap (λ (v : PassView _ Op Reply). length v.turn.waits) knows ∙ was.ours.waits;
+          objects = ap (λ (v : PassView _ Op Reply). length v.visitor.noted) knows ∙ was.ours.objects;
+          spans = ap (λ (v : PassView _ Op Reply). length v.visitor.freeing) knows ∙ was.ours.spans;
           queue = is.same.queue ∙ was.ours.queue;
           keep = (λ i. (is.same.keep i).what) ∙ was.ours.keep;
         };
-        active = ap (λ (v : PassView _). is_some v.turn.active) knows ∙ was.active;
-        grace = ap (λ (v : PassView _). graces.is_idle v.turn.grace) knows ∙ was.grace;
-        swap = ap (λ (v : PassView _). swaps.is_idle v.visitor.swap) knows ∙ was.swap;
-        served = ap (λ (v : PassView _). is_served v.visitor.place) knows ∙ was.served;
+        active = ap (λ (v : PassView _ Op Reply). is_some v.turn.active) knows ∙ was.active;
+        grace = ap (λ (v : PassView _ Op Reply). graces.is_idle v.turn.grace) knows ∙ was.grace;
+        swap = ap (λ (v : PassView _ Op Reply). swaps.is_idle v.visitor.swap) knows ∙ was.swap;
+        served = ap (λ (v : PassView _ Op Reply). is_served v.visitor.place) knows ∙ was.served;
         held =
-            ap (λ (v : PassView _). v.taker.held) knows ∙ ap (λ ns. filter (λ m. not (eqb m n)) ns) was.held
+            ap (λ (v : PassView _ Op Reply). v.taker.held) knows ∙ ap (λ ns. filter (λ m. not (eqb m n)) ns) was.held
             ∙ ap (λ b. cond (not b) (n ∷ []) []) (eq-eqb n n refl);
-        notes = ap (λ (v : PassView _). v.notes) knows ∙ was.notes;
+        notes = ap (λ (v : PassView _ Op Reply). v.notes) knows ∙ was.notes;
       };
     }
