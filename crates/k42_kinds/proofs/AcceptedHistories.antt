@@ -68,7 +68,8 @@ refused_before_another_object : IsLegalHistory (kinds.Counter ∷ kinds.Counter 
 refused_before_another_object = legal_history _ _ (search arith) (search arith)
 
 -- whatever came before: the swap before the last incarnation is carried out, and it is the last one
-last_swap : (before : List (Entry Op Reply)) → IsAlive kinds.Counter 0 before → number_of 0 before ≡ 1048574 → IsLegal kinds.Counter before (line 1 0 0 1048574 (Swap (Layout Shared)) (Swapped 1048575)) []
+last_swap : (before : List (Entry Op Reply)) → IsAlive kinds.Counter 0 before → number_of 0 before ≡ 1048574
+    → IsLegal kinds.Counter before (line 1 0 0 1048574 (Swap (Layout Shared)) (Swapped 1048575)) []
 last_swap before alive number = record { next = omega (arith, number); alive = alive; unspent = omega (arith, number); incarnation = omega (arith, number) }
 
 spent_at_the_last : (before : List (Entry Op Reply)) → IsAlive kinds.Counter 0 before → number_of 0 before ≡ 1048575 → IsLegal kinds.Counter before (line 1 0 0 1048575 (Swap (Layout Shared)) Spent) []

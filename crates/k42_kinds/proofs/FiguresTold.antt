@@ -214,7 +214,8 @@ or_false_last true b is = absurd (cc is)
 or_false_last false b is = is
 
 -- what is found behind one more entry at the front
-seen-cons : (number : ℕ) (seen : Option ℕ) (entry : Entry Op Reply) (rest : List (Entry Op Reply)) (found : Option (Entry Op Reply × List (Entry Op Reply))) (b : Bool) → changes_layer number entry ≡ b → destroys number entry ≡ false
+seen-cons : (number : ℕ) (seen : Option ℕ) (entry : Entry Op Reply) (rest : List (Entry Op Reply)) (found : Option (Entry Op Reply × List (Entry Op Reply))) (b : Bool)
+    → changes_layer number entry ≡ b → destroys number entry ≡ false
     → seen_behind number (seen_by number seen entry) rest found ≡ seen_behind number seen (entry ∷ rest) (option_or found (if b then Some (entry, rest) else None))
 seen-cons number seen entry rest (Some last) b is kept = refl
 seen-cons number seen entry rest None true is kept =

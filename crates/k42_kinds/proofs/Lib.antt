@@ -1,4 +1,5 @@
 pub mod PaddedFront
+pub mod WordLengths
 pub mod Splits
 pub mod Ends
 pub mod LegalHistories
@@ -17,3 +18,4 @@ pub mod SeenMaps
 pub mod FiniteMaps
 pub mod ObjectLaws
 pub mod PackedLemmas
+mod ExamplePackings

@@ -1,6 +1,5 @@
 -- The operations and replies of the three kinds as a log keeps them.
-use Rattle.std.specs.Prelude.{ℕ, ◌+◌, ◌-◌, ◌*◌, ◌/◌, ◌%◌, ◌==◌, if◌then◌else◌, min, List, [], ◌∷◌, length, slice_index_or, refl}
-use Rattle.std.proofs.Common.{arith}
+use Rattle.std.specs.Prelude.{ℕ, ◌+◌, ◌-◌, ◌*◌, ◌/◌, ◌%◌, ◌==◌, Bool, true, IsTrue, if◌then◌else◌, min, List, [], ◌∷◌, length, slice_index_or}
 use Rattle.k42_limits.specs.declared.TheConstants.{NAME_BYTES, TEXT_BYTES}
 use Rattle.k42_kinds.specs.declared.operation.Op.{Op}
 use Rattle.k42_kinds.specs.declared.operation.Op.TheVariants.{Add, Get, Drain, Bind, Find, Unbind, Size, Write, Read, Dirty, Clean, Seen}
@@ -8,16 +7,14 @@ use Rattle.k42_kinds.specs.declared.operation.Reply.{Reply}
 use Rattle.k42_kinds.specs.declared.operation.Reply.TheVariants.{Done, Taken, None, Number, Text, Zero, Gone}
 use Rattle.k42_kinds.specs.declared.packed.Label.{Label}
 use Rattle.k42_kinds.specs.declared.packed.Size as sizes
-use Rattle.k42_kinds.specs.Packing.{Packing, IsReplyLabel}
+use Rattle.k42_kinds.specs.Words.{is_name, is_text}
+use Rattle.k42_kinds.specs.Packing.{Packing, HasSize, labelled}
 
 abbrev pub first_word : List ℕ → ℕ
 first_word words = slice_index_or words 0 0
 
 abbrev pub sized : ℕ → ℕ → sizes.Size
 sized words bytes = record { words = words; bytes = bytes }
-
-abbrev pub labelled : ℕ → ℕ → Label
-labelled tag small = record { tag = tag; small = small }
 
 -- The small number is an amount, the length of a name, or a page and the length of its text.
 abbrev pub op_label : Op → Label
@@ -68,6 +65,19 @@ op_unpacked label words bytes =
     else if label.tag == 10 then Clean
     else Seen
 
+-- its names are names, and its text is a text
+abbrev pub is_spelled : Op → Bool
+is_spelled (Bind key number) = is_name key
+is_spelled (Find key) = is_name key
+is_spelled (Unbind key) = is_name key
+is_spelled (Write page text) = is_text text
+is_spelled _ = true
+
+-- they have the size that the label tells, and a name or a text where what is unpacked has one
+pub record FitsOp (label : Label) (whole_words whole_bytes : List ℕ) : Type 0 where
+  pub sized : HasSize (op_size label) whole_words whole_bytes
+  pub spelled : IsTrue (is_spelled (op_unpacked label whole_words whole_bytes))
+
 abbrev pub op_packing : Packing Op
 op_packing = record {
   label = op_label;
@@ -75,6 +85,7 @@ op_packing = record {
   bytes = op_bytes;
   size = op_size;
   most = sized 1 TEXT_BYTES;
+  Fits = FitsOp;
   unpack = op_unpacked;
 }
 
@@ -86,7 +97,7 @@ reply_label None = labelled 2 0
 reply_label (Number number) = labelled 3 0
 reply_label Zero = labelled 4 0
 reply_label Gone = labelled 5 0
-reply_label (Text text) = labelled (6 + min (length text) TEXT_BYTES) 0
+reply_label (Text text) = labelled (6 + length text) 0
 
 abbrev pub reply_words : Reply → List ℕ
 reply_words (Number number) = number ∷ []
@@ -109,6 +120,16 @@ reply_unpacked label words bytes =
     else if label.tag == 5 then Gone
     else Text bytes
 
+-- its text is a text
+abbrev pub is_spelled_reply : Reply → Bool
+is_spelled_reply (Text text) = is_text text
+is_spelled_reply _ = true
+
+-- they have the size that the label tells, and a text where what is unpacked has one
+pub record FitsReply (label : Label) (whole_words whole_bytes : List ℕ) : Type 0 where
+  pub sized : HasSize (reply_size label) whole_words whole_bytes
+  pub spelled : IsTrue (is_spelled_reply (reply_unpacked label whole_words whole_bytes))
+
 abbrev pub reply_packing : Packing Reply
 reply_packing = record {
   label = reply_label;
@@ -116,14 +137,6 @@ reply_packing = record {
   bytes = reply_bytes;
   size = reply_size;
   most = sized 1 TEXT_BYTES;
+  Fits = FitsReply;
   unpack = reply_unpacked;
 }
-
-pub low_label : (reply : Reply) → IsReplyLabel (reply_label reply)
-low_label Done = record { tag = omega arith; small = refl }
-low_label Taken = record { tag = omega arith; small = refl }
-low_label None = record { tag = omega arith; small = refl }
-low_label (Number number) = record { tag = omega arith; small = refl }
-low_label Zero = record { tag = omega arith; small = refl }
-low_label Gone = record { tag = omega arith; small = refl }
-low_label (Text text) = record { tag = omega arith; small = refl }

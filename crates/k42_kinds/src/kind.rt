@@ -11,9 +11,10 @@ use std::alloc::Global;
 pub trait Kind {
     type State: Drop;
 
-    /// What it is asked, and what it answers.
+    /// What it is asked.
     type Op: Packed + Send + Sync;
 
+    /// What it replies to a call.
     type Reply: PackedReply + Send + Sync;
 
     /// The object: its first state, its steps and its end.

@@ -24,22 +24,23 @@ pub struct Name {
 }
 
 impl Model for Name {
-    ghost use Rattle.std.specs.Prelude.{ℕ, List, take};
+    ghost use Rattle.std.specs.Prelude.{ℕ, List, IsTrue, take};
 
     ghost Value = { List ℕ };
 
     ghost use Rattle.k42_limits.specs.declared.TheConstants.{NAME_BYTES};
     ghost use Rattle.k42_kinds.specs.Padded.{IsPadded, padded, padded_back};
+    ghost use Rattle.k42_kinds.specs.Words.{is_name};
 
     ghost view = { λ name. take name.len name.bytes };
 
-    ghost invariant = { λ name. IsPadded NAME_BYTES name.len name.bytes };
+    ghost invariant = { λ name. IsPadded NAME_BYTES name.len name.bytes × IsTrue (is_name (take name.len name.bytes)) };
 
     ghost inverse = { λ bytes. record { bytes = (padded NAME_BYTES bytes).cells; len = (padded NAME_BYTES bytes).len } };
 
     ghost inverse_ok = { λ name whole i. record {
-      bytes = (padded_back NAME_BYTES name.len name.bytes whole i).cells;
-      len = (padded_back NAME_BYTES name.len name.bytes whole i).len;
+      bytes = (padded_back NAME_BYTES name.len name.bytes whole.0 i).cells;
+      len = (padded_back NAME_BYTES name.len name.bytes whole.0 i).len;
     } };
 }
 
@@ -55,9 +56,9 @@ impl Name {
         Some(Name::again(bytes))
     }
 
-    /// The name that had these bytes.
-    pub(crate) fn again(bytes: &[u8]) -> Name
-        requires { length bytes.now ≤ NAME_BYTES }
+    /// A name of these bytes, which spell one.
+    pub fn again(bytes: &[u8]) -> Name
+        requires { IsTrue (is_name bytes.now) }
         ensures { result ≡ bytes.now }
     {
         let mut cells = [0; NAME_BYTES];
@@ -69,8 +70,9 @@ impl Name {
     }
 
     /// How many bytes it has.
-    pub(crate) fn len(&self) -> u8
+    pub fn len(&self) -> u8
         ensures len { result ≡ length self.now }
+        ensures spelled { IsTrue (is_name self.now) }
         ensures few { result ≤ NAME_BYTES }
     {
         self.len

@@ -1,6 +1,6 @@
 //! How a log keeps operations and replies.
 ghost use Rattle.std.specs.Prelude.{◌≡◌, ◌+◌, ◌<◌, ◌≤◌, ◌++◌, length, vec_len, vec_capacity};
-ghost use Rattle.k42_kinds.specs.Packing.{Packing, HasSize, IsPacked, IsReplyLabel};
+ghost use Rattle.k42_kinds.specs.Packing.{Packing, IsPacked, IsReplyLabel};
 
 /// The tags of replies are below this.
 pub const REPLY_TAGS: u8 = 240;
@@ -25,12 +25,12 @@ pub trait Packed: Copy + Drop {
     /// How it is packed and unpacked.
     ghost packing: { Packing Self };
 
-    /// What is unpacked is what was packed.
+    /// The tag and the small number for the head; what is unpacked by them is what was packed.
     fn label(&self) -> Label
         ensures label { result ≡ packing.label self.now }
         ensures packed { IsPacked packing self.now };
 
-    /// How many words and bytes a value has at most.
+    /// How many words and bytes a value has at most, each below 65,536.
     fn most() -> Size
         ensures most { result ≡ packing.most }
         ensures few { (result.words < 65_536) × (result.bytes < 65_536) };
@@ -48,14 +48,15 @@ pub trait Packed: Copy + Drop {
         ensures words_room { vec_capacity words.new ≡ vec_capacity words.old }
         ensures bytes_room { vec_capacity bytes.new ≡ vec_capacity bytes.old };
 
-    /// The value with this label and just these words and bytes.
+    /// The value with this label and just these words and bytes, which fit behind it.
     fn unpack(label: Label, words: &[u64], bytes: &[u8]) -> Self
-        requires { HasSize (packing.size label) words.now bytes.now }
+        requires { packing.Fits label words.now bytes.now }
         ensures { result ≡ packing.unpack label words.now bytes.now };
 }
 
 /// A reply that a log keeps.
 pub trait PackedReply: Packed {
-    /// Its label has a tag below `REPLY_TAGS` and no small number.
-    ghost low: { (reply : Self) → IsReplyLabel (Self.packing.label reply) };
+    /// Its label has a tag below `REPLY_TAGS` and no small number. It only says so, and does nothing.
+    fn label_is_low(&self)
+        ensures { IsReplyLabel (Self.packing.label self.now) };
 }

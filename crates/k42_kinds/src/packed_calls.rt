@@ -1,6 +1,6 @@
 //! How a log keeps the operations and replies of the three kinds.
 ghost use Rattle.std.specs.Prelude.{◌≡◌, ◌+◌, ◌≤◌, ◌++◌, length, vec_len, vec_capacity};
-ghost use Rattle.k42_kinds.specs.PackedCalls.{low_label, op_packing, reply_packing};
+ghost use Rattle.k42_kinds.specs.PackedCalls.{op_packing, reply_packing};
 
 use crate::name::Name;
 use crate::operation::{Op, Reply};
@@ -176,5 +176,12 @@ impl Packed for Reply {
 }
 
 impl PackedReply for Reply {
-    ghost low = { low_label };
+    #[inline(always)]
+    #[tactic(auto, using(crate::proofs::PackedLemmas::low_reply))]
+    fn label_is_low(&self) {
+        if let Reply::Text(text) = self {
+            // How long a text is at most is known where its length is read.
+            let _len = text.len();
+        }
+    }
 }

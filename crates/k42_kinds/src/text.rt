@@ -23,22 +23,23 @@ pub struct Text {
 }
 
 impl Model for Text {
-    ghost use Rattle.std.specs.Prelude.{ℕ, List, take};
+    ghost use Rattle.std.specs.Prelude.{ℕ, List, IsTrue, take};
 
     ghost Value = { List ℕ };
 
     ghost use Rattle.k42_limits.specs.declared.TheConstants.{TEXT_BYTES};
     ghost use Rattle.k42_kinds.specs.Padded.{IsPadded, padded, padded_back};
+    ghost use Rattle.k42_kinds.specs.Words.{is_text};
 
     ghost view = { λ text. take text.len text.bytes };
 
-    ghost invariant = { λ text. IsPadded TEXT_BYTES text.len text.bytes };
+    ghost invariant = { λ text. IsPadded TEXT_BYTES text.len text.bytes × IsTrue (is_text (take text.len text.bytes)) };
 
     ghost inverse = { λ bytes. record { bytes = (padded TEXT_BYTES bytes).cells; len = (padded TEXT_BYTES bytes).len } };
 
     ghost inverse_ok = { λ text whole i. record {
-      bytes = (padded_back TEXT_BYTES text.len text.bytes whole i).cells;
-      len = (padded_back TEXT_BYTES text.len text.bytes whole i).len;
+      bytes = (padded_back TEXT_BYTES text.len text.bytes whole.0 i).cells;
+      len = (padded_back TEXT_BYTES text.len text.bytes whole.0 i).len;
     } };
 }
 
@@ -54,9 +55,9 @@ impl Text {
         Some(Text::again(bytes))
     }
 
-    /// The text that had these bytes.
-    pub(crate) fn again(bytes: &[u8]) -> Text
-        requires { length bytes.now ≤ TEXT_BYTES }
+    /// A text of these bytes, which spell one.
+    pub fn again(bytes: &[u8]) -> Text
+        requires { IsTrue (is_text bytes.now) }
         ensures { result ≡ bytes.now }
     {
         let mut cells = [0; TEXT_BYTES];
@@ -68,8 +69,9 @@ impl Text {
     }
 
     /// How many bytes it has.
-    pub(crate) fn len(&self) -> u8
+    pub fn len(&self) -> u8
         ensures len { result ≡ length self.now }
+        ensures spelled { IsTrue (is_text self.now) }
         ensures few { result ≤ TEXT_BYTES }
     {
         self.len

@@ -13,13 +13,14 @@ use Rattle.k42_kinds.specs.declared.entry.Answer.{Answer}
 use Rattle.k42_kinds.specs.declared.entry.Answer.TheVariants.{Replied, Swapped, Busy, Spent, Gone, Abandoned}
 use Rattle.k42_kinds.specs.declared.entry.Entry.{Entry}
 use Rattle.k42_kinds.specs.Histories.{is_call}
-use Rattle.k42_kinds.specs.Packing.{Packing, IsPacked, IsReplyLabel}
+use Rattle.k42_kinds.specs.Packing.{Packing, IsPacked, IsReplyLabel, labelled}
 use Rattle.k42_log.specs.declared.head.Head.{Head}
 use Rattle.k42_log.specs.Names.{end_name, end_named, is_reply, names_reply, to_name, to_named}
 use Rattle.k42_log.specs.Details.{Details, details_of, front, joined, no_details, no_size}
-use Rattle.k42_log.specs.Heads.{act_back, act_details, act_label, act_size, answer_back, answer_details, answer_name, answer_size, answer_small, cell_at, generation_at, generation_or_0, head_of, head_with, labelled, object_at, place_of}
+use Rattle.k42_log.specs.Heads.{FitsAct, FitsAnswer, act_back, act_details, act_size, answer_back, answer_details, answer_name, answer_size, answer_small}
+use Rattle.k42_log.specs.Heads.{cell_at, generation_at, generation_or_0, head_of, head_with, object_at, place_of}
 use Rattle.k42_log.specs.Entries.{Owner, entry_back}
-use Rattle.k42_log.proofs.Joining.{HasJust, behind_at, front_at, joined-none}
+use Rattle.k42_log.proofs.Joining.{HasJust, behind_at, front_at, front_just}
 
 -- what is packed of an act and of an answer
 
@@ -69,6 +70,12 @@ end_again Spent is = refl
 end_again Gone is = refl
 end_again (Abandoned number) is = refl
 
+-- what is packed has the size that is told
+just : {V : Type 0} (packing : Packing V) (value : V) → IsPacked packing value → HasJust (packing.size (packing.label value)) (details_of packing value)
+just packing value packed =
+    let whole = packed.sized (packing.words value) (packing.bytes value) packed.fits in
+    record { words = whole.words; bytes = whole.bytes }
+
 module _ {O R : Type 0} (ops : Packing O) (replies : Packing R) (entry : Entry O R) where
   abbrev call_head : O → R → Head
   call_head op reply = head_with ops replies entry (Call op) (Replied reply)
@@ -79,27 +86,56 @@ module _ {O R : Type 0} (ops : Packing O) (replies : Packing R) (entry : Entry O
       → HasJust (act_size ops (head_with ops replies entry act answer)) (act_details ops act)
   act_sized (Call op) (Replied reply) packed told pair =
       let is : act_size ops (call_head op reply) ≡ ops.size (ops.label op) = ap (λ (b : Bool). if b then ops.size (ops.label op) else no_size) (reply_named replies reply told) in
-      subst (λ (size : Size). HasJust size (details_of ops op)) (sym is) (record { words = packed.sized.words; bytes = packed.sized.bytes })
+      subst (λ (size : Size). HasJust size (details_of ops op)) (sym is) (just ops op packed)
   act_sized (Call op) (Swapped number) packed told pair = absurd (cc pair)
   act_sized (Call op) (Busy number) packed told pair = absurd (cc pair)
   act_sized (Call op) Spent packed told pair = absurd (cc pair)
   act_sized (Call op) Gone packed told pair = absurd (cc pair)
   act_sized (Call op) (Abandoned number) packed told pair = absurd (cc pair)
   act_sized (Swap to) answer packed told pair =
-      let is : act_size ops (head_with ops replies entry (Swap to) answer) ≡ no_size = ap (λ (b : Bool). if b then ops.size (labelled (to_name to) (answer_small answer)) else no_size) (end_unnamed replies answer (sym pair)) in
+      let is : act_size ops (head_with ops replies entry (Swap to) answer) ≡ no_size =
+      ap (λ (b : Bool). if b then ops.size (labelled (to_name to) (answer_small answer)) else no_size) (end_unnamed replies answer (sym pair)) in
       subst (λ (size : Size). HasJust size no_details) (sym is) (record { words = refl; bytes = refl })
 
   pub answer_sized : (act : Act O) (answer : Answer R) → IsPackedAnswer replies answer
       → HasJust (answer_size replies (head_with ops replies entry act answer)) (answer_details replies answer)
   answer_sized act (Replied reply) told =
-      let size : answer_size replies (head_with ops replies entry act (Replied reply)) ≡ replies.size (labelled (replies.label reply).tag 0) = ap (λ (b : Bool). if b then replies.size (labelled (replies.label reply).tag 0) else no_size) (reply_named replies reply told) in
+      let size : answer_size replies (head_with ops replies entry act (Replied reply)) ≡ replies.size (labelled (replies.label reply).tag 0) =
+      ap (λ (b : Bool). if b then replies.size (labelled (replies.label reply).tag 0) else no_size) (reply_named replies reply told) in
       let is = size ∙ ap (λ n. replies.size (labelled (replies.label reply).tag n)) (sym told.low.small) in
-      subst (λ (size : Size). HasJust size (details_of replies reply)) (sym is) (record { words = told.packed.sized.words; bytes = told.packed.sized.bytes })
+      subst (λ (size : Size). HasJust size (details_of replies reply)) (sym is) (just replies reply told.packed)
   answer_sized act (Swapped number) told = record { words = refl; bytes = refl }
   answer_sized act (Busy number) told = record { words = refl; bytes = refl }
   answer_sized act Spent told = record { words = refl; bytes = refl }
   answer_sized act Gone told = record { words = refl; bytes = refl }
   answer_sized act (Abandoned number) told = record { words = refl; bytes = refl }
+
+  -- and they may stand behind the labels of the head
+
+  pub act_fits : (act : Act O) (answer : Answer R) (more : Details) → IsPackedAct ops act → IsPackedAnswer replies answer → is_call act ≡ is_reply answer
+      → FitsAct ops (head_with ops replies entry act answer) (front (act_size ops (head_with ops replies entry act answer)) (joined (act_details ops act) more))
+  act_fits (Call op) (Replied reply) more packed told pair call =
+      let own = front_at _ (details_of ops op) more (act_sized (Call op) (Replied reply) packed told pair) in
+      subst (λ (d : Details). ops.Fits (ops.label op) d.words d.bytes) (sym own) packed.fits
+  act_fits (Call op) (Swapped number) more packed told pair call = absurd (cc pair)
+  act_fits (Call op) (Busy number) more packed told pair call = absurd (cc pair)
+  act_fits (Call op) Spent more packed told pair call = absurd (cc pair)
+  act_fits (Call op) Gone more packed told pair call = absurd (cc pair)
+  act_fits (Call op) (Abandoned number) more packed told pair call = absurd (cc pair)
+  act_fits (Swap to) answer more packed told pair call = absurd (let swap = sym call ∙ end_unnamed replies answer (sym pair) in cc swap)
+
+  pub answer_fits : (act : Act O) (answer : Answer R) → IsPackedAnswer replies answer
+      → FitsAnswer replies (head_with ops replies entry act answer) (front (answer_size replies (head_with ops replies entry act answer)) (answer_details replies answer))
+  answer_fits act (Replied reply) told call =
+      let own : front (answer_size replies (head_with ops replies entry act (Replied reply))) (details_of replies reply) ≡ details_of replies reply =
+      front_just _ (details_of replies reply) (answer_sized act (Replied reply) told) in
+      subst (λ (d : Details). replies.Fits (labelled (replies.label reply).tag 0) d.words d.bytes) (sym own)
+      (subst (λ n. replies.Fits (labelled (replies.label reply).tag n) (replies.words reply) (replies.bytes reply)) told.low.small told.packed.fits)
+  answer_fits act (Swapped number) told call = absurd (cc call)
+  answer_fits act (Busy number) told call = absurd (cc call)
+  answer_fits act Spent told call = absurd (cc call)
+  answer_fits act Gone told call = absurd (cc call)
+  answer_fits act (Abandoned number) told call = absurd (cc call)
 
   act_again : (act : Act O) (answer : Answer R) (more : Details) → IsPackedAct ops act → IsPackedAnswer replies answer → is_call act ≡ is_reply answer
       → act_back ops (head_with ops replies entry act answer) (front (act_size ops (head_with ops replies entry act answer)) (joined (act_details ops act) more)) ≡ act
@@ -121,10 +157,9 @@ module _ {O R : Type 0} (ops : Packing O) (replies : Packing R) (entry : Entry O
       → answer_back replies (head_with ops replies entry act answer) (front (answer_size replies (head_with ops replies entry act answer)) (answer_details replies answer)) ≡ answer
   answer_again act (Replied reply) told pair =
       let h = head_with ops replies entry act (Replied reply) in
-      let all : front (answer_size replies h) (details_of replies reply) ≡ details_of replies reply =
-      sym (ap (front (answer_size replies h)) (joined-none (details_of replies reply))) ∙ front_at (answer_size replies h) (details_of replies reply) no_details (answer_sized act (Replied reply) told) in
-      ap (answer_back replies h) all
-      ∙ ap (λ (b : Bool). if b then Replied (replies.unpack (labelled (replies.label reply).tag 0) (replies.words reply) (replies.bytes reply)) else end_named (replies.label reply).tag h.small) (reply_named replies reply told)
+      ap (answer_back replies h) (front_just (answer_size replies h) (details_of replies reply) (answer_sized act (Replied reply) told))
+      ∙ ap (λ (b : Bool). if b then Replied (replies.unpack (labelled (replies.label reply).tag 0) (replies.words reply) (replies.bytes reply)) else end_named (replies.label reply).tag h.small)
+      (reply_named replies reply told)
       ∙ ap (λ n. Replied (replies.unpack (labelled (replies.label reply).tag n) (replies.words reply) (replies.bytes reply))) (sym told.low.small)
       ∙ ap Replied told.packed.again
   answer_again (Call op) (Swapped number) told pair = absurd (cc pair)

@@ -77,7 +77,17 @@ heads_are : head_of op_packing reply_packing bind ∷ head_of op_packing reply_p
 heads_are = refl
 
 whole : AreWhole op_packing reply_packing (bind_head ∷ watch_head ∷ []) details
-whole = record { words = refl; bytes = refl }
+whole = record {
+  words = refl;
+  bytes = refl;
+  fits = (
+    record {
+      act = λ call. record { sized = record { words = refl; bytes = refl }; spelled = refl };
+      answer = λ call. record { sized = record { words = refl; bytes = refl }; spelled = refl };
+    },
+    (record { act = λ call. absurd (cc call); answer = λ call. absurd (cc call) }, tt),
+  );
+}
 
 read_back : entries_back op_packing reply_packing owner 40 (bind_head ∷ watch_head ∷ []) details ≡ bind ∷ watch ∷ []
 read_back = refl
@@ -85,6 +95,10 @@ read_back = refl
 -- without the last word, the details are not whole
 not_whole : ¬ AreWhole op_packing reply_packing (bind_head ∷ watch_head ∷ []) (record details { words = 9 ∷ [] })
 not_whole short = omega (arith, short.words)
+
+-- nor are they with a byte that spells no name
+no_name : ¬ AreWhole op_packing reply_packing (bind_head ∷ watch_head ∷ []) (record details { bytes = 65 ∷ [] })
+no_name wrong = let spelled = (wrong.fits.0.act refl).spelled in cc spelled
 
 -- a place that tells of no generation gives another entry
 no_generation : ¬ (entry_back op_packing reply_packing owner 40 (record bind_head { place = 550 }) details ≡ bind)

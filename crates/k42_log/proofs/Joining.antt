@@ -1,8 +1,8 @@
 -- Details that others follow: what comes first stays, and what is behind it.
-use Rattle.std.proofs.Common.{◌≡◌, ◌∙◌, ℕ, length, refl, ap}
+use Rattle.std.proofs.Common.{◌≡◌, ◌∙◌, length, ap, sym}
 use Rattle.std.proofs.lemmas.List.{append-nil, append_assoc, drop-append-le, take-append-le, take_at, drop_at}
 use Rattle.k42_kinds.specs.declared.packed.Size.{Size}
-use Rattle.k42_log.specs.Details.{Details, HasSoMany, behind, front, joined, no_details, size_in}
+use Rattle.k42_log.specs.Details.{Details, HasSoMany, behind, front, joined, no_details}
 
 pub joined_assoc : (a b c : Details) → joined (joined a b) c ≡ joined a (joined b c)
 joined_assoc a b c i = record { words = append_assoc a.words b.words c.words i; bytes = append_assoc a.bytes b.bytes c.bytes i }
@@ -43,3 +43,7 @@ behind_at size details more has i = record {
   words = drop_at details.words more.words size.words has.words i;
   bytes = drop_at details.bytes more.bytes size.bytes has.bytes i;
 }
+
+-- without others too
+pub front_just : (size : Size) (details : Details) → HasJust size details → front size details ≡ details
+front_just size details has = sym (ap (front size) (joined-none details)) ∙ front_at size details no_details has

@@ -11,7 +11,7 @@ use Rattle.k42_kinds.specs.declared.entry.Answer.TheVariants.{Replied, Swapped, 
 use Rattle.k42_kinds.specs.declared.entry.To.{To}
 use Rattle.k42_kinds.specs.declared.entry.Entry.{Entry}
 use Rattle.k42_kinds.specs.Histories.{is_call}
-use Rattle.k42_kinds.specs.Packing.{Packing, IsPacked, IsWithin}
+use Rattle.k42_kinds.specs.Packing.{Packing, IsNoMoreThan, IsPacked}
 use Rattle.k42_log.specs.declared.head.Head.{Head}
 use Rattle.k42_log.specs.declared.log.Log.TheInside.{Inside}
 use Rattle.k42_log.specs.Names.{end_name, is_reply, to_name}
@@ -79,7 +79,8 @@ module _ {O R : Type 0} (ops : Packing O) (replies : Packing R) where
       let due : joined (details_in log.stored) (entry_details ops replies entry) ≡ details =
       sym (second ∙ ap (λ d. joined d (details_of replies reply)) first ∙ joined_assoc (details_in log.stored) (details_of ops op) (details_of replies reply)) in
       let longer : log.heads.items ++ head_of ops replies entry ∷ [] ≡ heads = sym (more ∙ ap (λ h. log.heads.items ++ h ∷ []) own) in
-      subst (λ d. Gives ops replies log heads d entry) due (subst (λ hs. Gives ops replies log hs (joined (details_in log.stored) (entry_details ops replies entry)) entry) longer (gives log entry sound keeps refl))
+      subst (λ d. Gives ops replies log heads d entry) due
+      (subst (λ hs. Gives ops replies log hs (joined (details_in log.stored) (entry_details ops replies entry)) entry) longer (gives log entry sound keeps refl))
 
   -- no swap has details
   swap_plain : (to : To) (act : Act O) (answer : Answer R) → act ≡ Swap to → is_call act ≡ is_reply answer
@@ -146,15 +147,17 @@ module _ {O R : Type 0} (ops : Packing O) (replies : Packing R) where
       let due : joined (details_in log.stored) (entry_details ops replies entry) ≡ details_in log.stored =
       ap (joined (details_in log.stored)) (swap_plain to entry.act entry.answer is next.answered) ∙ joined-none (details_in log.stored) in
       let longer : log.heads.items ++ head_of ops replies entry ∷ [] ≡ heads = sym (more ∙ ap (λ h. log.heads.items ++ h ∷ []) (own ∙ swap_head_is entry to is next.answered)) in
-      subst (λ d. Gives ops replies log heads d entry) due (subst (λ hs. Gives ops replies log hs (joined (details_in log.stored) (entry_details ops replies entry)) entry) longer (gives log entry sound keeps next.index))
+      subst (λ d. Gives ops replies log heads d entry) due
+      (subst (λ hs. Gives ops replies log hs (joined (details_in log.stored) (entry_details ops replies entry)) entry) longer (gives log entry sound keeps next.index))
 
-  pub room_pushed : (log new : Inside O R) (head : Head) (act answer : Size) → IsWithin act ops.most → IsWithin answer replies.most
+  pub room_pushed : (log new : Inside O R) (head : Head) (act answer : Size) → IsNoMoreThan act ops.most → IsNoMoreThan answer replies.most
       → new.heads.items ≡ log.heads.items ++ head ∷ [] → vec_capacity new.heads ≡ vec_capacity log.heads
       → spare_in new.stored ≡ less_by (less_by (spare_in log.stored) act) answer
       → room_in ops replies log ≤ room_in ops replies new + 1
   room_pushed log new head act answer one two more same less =
       let left : entries_fitting (over_most ops replies) (spare_in log.stored) ≤ entries_fitting (over_most ops replies) (spare_in new.stored) + 1 =
-      subst (λ s. entries_fitting (over_most ops replies) (spare_in log.stored) ≤ entries_fitting (over_most ops replies) s + 1) (sym less) (room_left ops replies (spare_in log.stored) act answer one two) in
+      subst (λ s. entries_fitting (over_most ops replies) (spare_in log.stored) ≤ entries_fitting (over_most ops replies) s + 1) (sym less)
+      (room_left ops replies (spare_in log.stored) act answer one two) in
       let longer = ap length more ∙ length-append log.heads.items (head ∷ []) in
       let heads : vec_capacity log.heads - length log.heads.items - 1 ≡ vec_capacity new.heads - length new.heads.items = omega arith in
       subst (λ n. room_in ops replies log ≤ min n (entries_fitting (over_most ops replies) (spare_in new.stored)) + 1) heads (least_room _ _ _ left)

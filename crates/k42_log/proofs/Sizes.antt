@@ -5,14 +5,14 @@ use Rattle.std.proofs.lemmas.Nat.{div-add-mod', le-div, div_below}
 use Rattle.std.proofs.lemmas.List.Sums.{sum_by_push}
 use Rattle.k42_kinds.specs.declared.packed.Size.{Size}
 use Rattle.k42_kinds.specs.declared.entry.Entry.{Entry}
-use Rattle.k42_kinds.specs.Packing.{Packing, IsPacked, IsWithin}
+use Rattle.k42_kinds.specs.Packing.{Packing, IsNoMoreThan, IsPacked}
 use Rattle.k42_log.specs.declared.head.Head.{Head}
 use Rattle.k42_log.specs.Details.{Details, details_of, entries_fitting, joined, less_by, size_in}
-use Rattle.k42_log.specs.Heads.{act_details, answer_details, head_of}
+use Rattle.k42_log.specs.Heads.{head_of}
 use Rattle.k42_log.specs.Entries.{AreWhole, head_size}
 use Rattle.k42_log.specs.LogFields.{over_most}
 use Rattle.k42_log.proofs.BackAgain.{IsPackedEntry, act_sized, answer_sized}
-use Rattle.k42_log.proofs.Appended.{entry_details}
+use Rattle.k42_log.proofs.Appended.{each_fits-push, entry_details}
 
 -- three lists, joined, have the sum of their lengths
 joined_length : {A : Type 0} (x a b : List A) (n p q : ℕ) → length x ≡ n → length a ≡ p → length b ≡ q
@@ -28,6 +28,7 @@ whole_then ops replies heads details entry packed whole =
     record {
       words = joined_length details.words _ _ _ _ _ whole.words act.words answer.words ∙ sym (sum_by_push (λ head. (head_size ops replies head).words) heads (head_of ops replies entry));
       bytes = joined_length details.bytes _ _ _ _ _ whole.bytes act.bytes answer.bytes ∙ sym (sum_by_push (λ head. (head_size ops replies head).bytes) heads (head_of ops replies entry));
+      fits = each_fits-push ops replies heads details entry packed whole;
     }
 
 -- how many times a number goes into what there is
@@ -80,7 +81,7 @@ quotient_whole n k some there = by (n / k) refl there where
 min_both : (a b c d : ℕ) → a ≤ c → b ≤ d → min a b ≤ min c d
 min_both a b c d one two = omega arith
 
-pub more_fitting : (over one other : Size) → 0 < over.words → 0 < over.bytes → IsWithin one other
+pub more_fitting : (over one other : Size) → 0 < over.words → 0 < over.bytes → IsNoMoreThan one other
     → entries_fitting over one ≤ entries_fitting over other
 more_fitting over one other words bytes more =
     min_both (one.words / over.words) (one.bytes / over.bytes) (other.words / over.words) (other.bytes / over.bytes)
@@ -107,7 +108,7 @@ twice_left n k a b few =
     subst (λ m. n / k ≤ m / k + 1) (sym (taken_twice n a b)) left
 
 pub room_left : {O R : Type 0} (ops : Packing O) (replies : Packing R) (spare act answer : Size)
-    → IsWithin act ops.most → IsWithin answer replies.most
+    → IsNoMoreThan act ops.most → IsNoMoreThan answer replies.most
     → entries_fitting (over_most ops replies) spare ≤ entries_fitting (over_most ops replies) (less_by (less_by spare act) answer) + 1
 room_left ops replies spare act answer one two =
     least_left (spare.words / (over_most ops replies).words) (spare.bytes / (over_most ops replies).bytes)
@@ -125,7 +126,7 @@ first_fits : (heads words bytes : ℕ) → 0 < min heads (min words bytes) → (
 first_fits heads words bytes room = (omega (arith, room), omega (arith, room))
 
 pub both_fit : {O R : Type 0} (ops : Packing O) (replies : Packing R) (heads : ℕ) (spare : Size)
-    → 0 < min heads (entries_fitting (over_most ops replies) spare) → IsWithin (over_most ops replies) spare
+    → 0 < min heads (entries_fitting (over_most ops replies) spare) → IsNoMoreThan (over_most ops replies) spare
 both_fit ops replies heads spare room =
     let some = first_fits heads (spare.words / (over_most ops replies).words) (spare.bytes / (over_most ops replies).bytes) room in
     record {
@@ -135,14 +136,13 @@ both_fit ops replies heads spare room =
 
 -- what is packed is no more than the most
 
-pub details_few : {V : Type 0} (packing : Packing V) (value : V) → IsPacked packing value → IsWithin (size_in (details_of packing value)) packing.most
-details_few packing value packed = record {
-  words = omega (arith, packed.sized.words, packed.few.words);
-  bytes = omega (arith, packed.sized.bytes, packed.few.bytes);
-}
+pub details_few : {V : Type 0} (packing : Packing V) (value : V) → IsPacked packing value → IsNoMoreThan (size_in (details_of packing value)) packing.most
+details_few packing value packed =
+    let whole = packed.sized (packing.words value) (packing.bytes value) packed.fits in
+    record { words = omega (arith, whole.words, packed.few.words); bytes = omega (arith, whole.bytes, packed.few.bytes) }
 
 pub op_fits : {O R : Type 0} (ops : Packing O) (replies : Packing R) (heads : ℕ) (spare : Size) (op : O)
-    → 0 < min heads (entries_fitting (over_most ops replies) spare) → IsPacked ops op → IsWithin (size_in (details_of ops op)) spare
+    → 0 < min heads (entries_fitting (over_most ops replies) spare) → IsPacked ops op → IsNoMoreThan (size_in (details_of ops op)) spare
 op_fits ops replies heads spare op room packed =
     let fits = both_fit ops replies heads spare room in
     let few = details_few ops op packed in
@@ -150,10 +150,10 @@ op_fits ops replies heads spare op room packed =
 
 pub reply_fits : {O R : Type 0} (ops : Packing O) (replies : Packing R) (heads : ℕ) (spare left : Size) (op : O) (reply : R)
     → 0 < min heads (entries_fitting (over_most ops replies) spare) → IsPacked ops op → IsPacked replies reply
-    → left ≡ less_by spare (size_in (details_of ops op)) → IsWithin (size_in (details_of replies reply)) left
+    → left ≡ less_by spare (size_in (details_of ops op)) → IsNoMoreThan (size_in (details_of replies reply)) left
 reply_fits ops replies heads spare left op reply room asked told is =
     let fits = both_fit ops replies heads spare room in
     let one = details_few ops op asked in
     let two = details_few replies reply told in
-    subst (IsWithin (size_in (details_of replies reply))) (sym is)
+    subst (IsNoMoreThan (size_in (details_of replies reply))) (sym is)
     (record { words = omega (arith, fits.words, one.words, two.words); bytes = omega (arith, fits.bytes, one.bytes, two.bytes) })

@@ -1,5 +1,5 @@
 -- What an entry has besides its head: words of 64 bits, and bytes.
-use Rattle.std.specs.Prelude.{ℕ, suc, ◌+◌, ◌-◌, ◌/◌, ◌≤◌, List, [], ◌++◌, length, take, drop, min}
+use Rattle.std.specs.Prelude.{ℕ, ◌+◌, ◌-◌, ◌/◌, ◌≤◌, List, [], ◌++◌, length, take, drop, min}
 use Rattle.k42_kinds.specs.declared.packed.Size.{Size}
 use Rattle.k42_kinds.specs.Packing.{Packing}
 

@@ -6,7 +6,7 @@ use Rattle.k42_kinds.specs.declared.entry.Entry.{Entry}
 use Rattle.k42_kinds.specs.Packing.{Packing}
 use Rattle.k42_log.specs.declared.head.Head.{Head}
 use Rattle.k42_log.specs.Details.{Details, behind, front, sum_of}
-use Rattle.k42_log.specs.Heads.{act_back, act_size, answer_back, answer_size, cell_at, generation_at, object_at}
+use Rattle.k42_log.specs.Heads.{FitsAct, FitsAnswer, act_back, act_size, answer_back, answer_size, cell_at, generation_at, object_at}
 
 -- whose entries they are, and on which processor
 pub record Owner : Type 0 where
@@ -47,7 +47,19 @@ entries_back ops replies owner first (head ∷ heads) details =
 abbrev pub head_size : {O R : Type 0} → Packing O → Packing R → Head → Size
 head_size ops replies head = sum_of (act_size ops head) (answer_size replies head)
 
--- there are as many details as the heads have
+-- the details that come first may stand behind the labels of the head
+pub record FitsHead {O R : Type 0} (ops : Packing O) (replies : Packing R) (head : Head) (details : Details) : Type 0 where
+  pub act : FitsAct ops head (front (act_size ops head) details)
+  pub answer : FitsAnswer replies head (front (answer_size replies head) (behind_act ops head details))
+
+-- those of each head may stand behind its labels
+abbrev pub EachFits : {O R : Type 0} → Packing O → Packing R → List Head → Details → Type 0
+EachFits ops replies [] details = Unit {0}
+EachFits ops replies (head ∷ heads) details =
+    FitsHead ops replies head details × EachFits ops replies heads (behind_entry ops replies head details)
+
+-- there are as many details as the heads have, each where it may stand
 pub record AreWhole {O R : Type 0} (ops : Packing O) (replies : Packing R) (heads : List Head) (details : Details) : Type 0 where
   pub words : length details.words ≡ sum_by (λ head. (head_size ops replies head).words) heads
   pub bytes : length details.bytes ≡ sum_by (λ head. (head_size ops replies head).bytes) heads
+  pub fits : EachFits ops replies heads details

@@ -1,5 +1,5 @@
 -- The head of an entry: its names, where it was drawn, and what is small.
-use Rattle.std.specs.Prelude.{ℕ, ◌+◌, ◌*◌, ◌/◌, ◌%◌, ◌==◌, if◌then◌else◌, Option, Some, None}
+use Rattle.std.specs.Prelude.{ℕ, ◌+◌, ◌*◌, ◌/◌, ◌%◌, ◌==◌, IsTrue, if◌then◌else◌, Option, Some, None}
 use Rattle.k42_limits.specs.declared.TheConstants.{OBJECTS}
 use Rattle.k42_kinds.specs.declared.packed.Label.{Label}
 use Rattle.k42_kinds.specs.declared.packed.Size.{Size}
@@ -8,7 +8,7 @@ use Rattle.k42_kinds.specs.declared.entry.Act.TheVariants.{Call, Swap}
 use Rattle.k42_kinds.specs.declared.entry.Answer.{Answer}
 use Rattle.k42_kinds.specs.declared.entry.Answer.TheVariants.{Replied, Swapped, Busy, Abandoned}
 use Rattle.k42_kinds.specs.declared.entry.Entry.{Entry}
-use Rattle.k42_kinds.specs.Packing.{Packing}
+use Rattle.k42_kinds.specs.Packing.{Packing, labelled}
 use Rattle.k42_log.specs.declared.head.Head.{Head}
 use Rattle.k42_log.specs.Names.{end_name, end_named, names_reply, to_name, to_named}
 use Rattle.k42_log.specs.Details.{Details, details_of, no_details, no_size}
@@ -34,9 +34,6 @@ answer_small (Swapped number) = number
 answer_small (Busy number) = number
 answer_small (Abandoned number) = number
 answer_small _ = 0
-
-abbrev pub labelled : ℕ → ℕ → Label
-labelled tag small = record { tag = tag; small = small }
 
 -- what was asked, by the label of an operation, or by how an object is to be kept and the number of its swap
 abbrev pub act_label : {O R : Type 0} → Packing O → Act O → Answer R → Label
@@ -64,6 +61,14 @@ act_size ops head = if names_reply head.answer then ops.size (labelled head.act 
 
 abbrev pub answer_size : {R : Type 0} → Packing R → Head → Size
 answer_size replies head = if names_reply head.answer then replies.size (labelled head.answer 0) else no_size
+
+-- what may stand behind the labels of a call, and of its reply
+
+abbrev pub FitsAct : {O : Type 0} → Packing O → Head → Details → Type 0
+FitsAct ops head own = IsTrue (names_reply head.answer) → ops.Fits (labelled head.act head.small) own.words own.bytes
+
+abbrev pub FitsAnswer : {R : Type 0} → Packing R → Head → Details → Type 0
+FitsAnswer replies head own = IsTrue (names_reply head.answer) → replies.Fits (labelled head.answer 0) own.words own.bytes
 
 -- back from the head, with the details in their order
 

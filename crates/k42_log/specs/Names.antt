@@ -29,7 +29,8 @@ end_name (Swapped number) = REPLY_TAGS
 end_name (Busy number) = REPLY_TAGS + 1
 end_name Spent = REPLY_TAGS + 2
 end_name Gone = REPLY_TAGS + 3
-end_name _ = REPLY_TAGS + 4
+end_name (Abandoned number) = REPLY_TAGS + 4
+end_name (Replied reply) = REPLY_TAGS + 4
 
 abbrev pub end_named : {R : Type 0} → ℕ → ℕ → Answer R
 end_named name small =

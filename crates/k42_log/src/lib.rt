@@ -1,4 +1,4 @@
-//! The entries of one caller, each as a head of three words and the names, texts and numbers that it has besides.
+//! The entries of one caller, each as a head of three words, and words and bytes besides.
 #![tactic(auto)]
 
 mod head;

@@ -168,6 +168,7 @@ impl<O: Packed, R: PackedReply> Log<O, R> {
     {
         let asked = op.label();
         let told = reply.label();
+        reply.label_is_low();
         self.stored.keep(op);
         self.stored.keep(reply);
         self.heads.push_reserved(Head {

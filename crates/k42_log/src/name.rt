@@ -37,7 +37,7 @@ pub(crate) fn end_name<R>(answer: &Answer<R>) -> u8
         Answer::Busy(_) => REPLY_TAGS + 1,
         Answer::Spent => REPLY_TAGS + 2,
         Answer::Gone => REPLY_TAGS + 3,
-        _ => REPLY_TAGS + 4,
+        Answer::Abandoned(_) | Answer::Replied(_) => REPLY_TAGS + 4,
     }
 }
 

@@ -1,7 +1,7 @@
 //! Details, read one after the other.
 ghost use Rattle.std.specs.Prelude.{◌≡◌};
 ghost use Rattle.k42_log.specs.Details.{HasSoMany, behind, front};
-ghost use Rattle.k42_log.specs.Heads.{act_back, act_size, answer_back, answer_size};
+ghost use Rattle.k42_log.specs.Heads.{FitsAct, FitsAnswer, act_back, act_size, answer_back, answer_size};
 
 use crate::head::Head;
 use crate::name::{end_named, names_reply, to_named};
@@ -30,9 +30,10 @@ impl<'a> Reading<'a> {
         Reading { words, bytes }
     }
 
-    /// The value that has this label and the first of the details.
+    /// The value that has this label and the first of the details, which fit behind it.
     fn next<V: Packed>(&mut self, label: Label) -> V
-        requires { HasSoMany (V.packing.size label) self.old }
+        requires many { HasSoMany (V.packing.size label) self.old }
+        requires fits { V.packing.Fits label (front (V.packing.size label) self.old).words (front (V.packing.size label) self.old).bytes }
         ensures value { result ≡ V.packing.unpack label (front (V.packing.size label) self.old).words (front (V.packing.size label) self.old).bytes }
         ensures rest { self.new ≡ behind (V.packing.size label) self.old }
     {
@@ -45,7 +46,8 @@ impl<'a> Reading<'a> {
     }
 
     pub(crate) fn next_act<O: Packed>(&mut self, head: &Head) -> Act<O>
-        requires { HasSoMany (act_size O.packing head.now) self.old }
+        requires many { HasSoMany (act_size O.packing head.now) self.old }
+        requires fits { FitsAct O.packing head.now (front (act_size O.packing head.now) self.old) }
         ensures act { result ≡ act_back O.packing head.now (front (act_size O.packing head.now) self.old) }
         ensures rest { self.new ≡ behind (act_size O.packing head.now) self.old }
     {
@@ -61,7 +63,8 @@ impl<'a> Reading<'a> {
     }
 
     pub(crate) fn next_answer<R: Packed>(&mut self, head: &Head) -> Answer<R>
-        requires { HasSoMany (answer_size R.packing head.now) self.old }
+        requires many { HasSoMany (answer_size R.packing head.now) self.old }
+        requires fits { FitsAnswer R.packing head.now (front (answer_size R.packing head.now) self.old) }
         ensures answer { result ≡ answer_back R.packing head.now (front (answer_size R.packing head.now) self.old) }
         ensures rest { self.new ≡ behind (answer_size R.packing head.now) self.old }
     {

@@ -10,10 +10,10 @@ use Rattle.k42_kinds.specs.Watched.{Asking}
 
 -- The object does not take what asks for the count: it is left so, and answers as a dead object is told of
 -- one.
-pub record TakesNoSeen {S O R : Type 0} (k : Asking O R) (object : OneThread S O R) : Type 0 where
-  pub takes : (op : O) → k.asks op ≡ true → object.takes op ≡ false
-  pub after : (op : O) → k.asks op ≡ true → (state : S) → object.after state op ≡ state
-  pub reply : (op : O) → k.asks op ≡ true → (state : S) → object.reply state op ≡ k.tells true None
+pub record TakesNoSeen {S O R : Type 0} (asking : Asking O R) (object : OneThread S O R) : Type 0 where
+  pub takes : (op : O) → asking.asks op ≡ true → object.takes op ≡ false
+  pub after : (op : O) → asking.asks op ≡ true → (state : S) → object.after state op ≡ state
+  pub reply : (op : O) → asking.asks op ≡ true → (state : S) → object.reply state op ≡ asking.tells true None
 
 -- every swap but a destroy leaves the state
 abbrev pub KeepsState : {S O R : Type 0} → OneThread S O R → Type 0

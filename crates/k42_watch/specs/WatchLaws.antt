@@ -16,81 +16,84 @@ use Rattle.k42_kinds.specs.declared.entry.Answer.TheVariants.{Swapped}
 use Rattle.k42_kinds.specs.declared.operation.LayoutName.{LayoutName}
 use Rattle.k42_kinds.specs.declared.watch.WatchState.{WatchState}
 use Rattle.k42_watch.specs.Bare.{TakesNoSeen, KeepsState, AsksByTag}
-use Rattle.k42_watch.specs.WatchedRows.{inners, seens, count_of, CountsNot, IsSmall, AreAlike, seen_reach, watched_ways, IsWatchedRow, ServesWatched, seen_under, admitted_watched, act_under, watched_act}
-use Rattle.k42_watch.specs.CountLaws.{length-changed, length-inners, length-seens, none-same, count-none, count-counted, alike-changed, small-changed, count-small, none-small, count-alone, inners-rejoined, seens-rejoined, inners-shared, alike-shared, small-shared, dead-shared, count-shared}
+use Rattle.k42_watch.specs.WatchedRows.{inners, seens, count_of, CountsNot, IsSmall, AreAlike, asking_reach, watched_ways, IsWatchedRow, ServesWatched}
+use Rattle.k42_watch.specs.WatchedRows.{seen_under, admitted_watched, act_under, watched_act}
+use Rattle.k42_watch.specs.CountLaws.{length-changed, length-inners, length-seens, none-same, count-none, count-counted, alike-changed, small-changed}
+use Rattle.k42_watch.specs.CountLaws.{count-small, none-small, count-alone, inners-rejoined, seens-rejoined, inners-shared, alike-shared, small-shared, dead-shared, count-shared}
 use Rattle.k42_watch.specs.declared.watch.Layer.{Layer}
 use Rattle.k42_watch.specs.declared.watch.Layer.TheVariants.{Keep, Place, Take}
 use Rattle.k42_watch.specs.declared.watch.WatchPart.{WatchPart}
 
 -- what the watched object tells of the object within
 abbrev stripped : {S O R : Type 0} → Asking O R → OneThread (WatchState S) O R → OneThread S O R
-stripped k w = record {
+stripped asking w = record {
   start = w.start.inner;
-  takes = λ op. if k.asks op then false else w.takes op;
+  takes = λ op. if asking.asks op then false else w.takes op;
   after = λ state op. (w.after (watch_state state None) op).inner;
-  reply = λ state op. if k.asks op then k.tells true None else w.reply (watch_state state None) op;
+  reply = λ state op. if asking.asks op then asking.tells true None else w.reply (watch_state state None) op;
   swapped = λ state to. (w.swapped (watch_state state None) to).inner;
   is_ended = λ state. w.is_ended (watch_state state None);
 }
 
-module _ {S O R : Type 0} (k : Asking O R) (o : OneThread S O R) (no_seen : TakesNoSeen k o) where
-  same_takes : (op : O) (b : Bool) → k.asks op ≡ b → (stripped k (watched k o)).takes op ≡ o.takes op
+module _ {S O R : Type 0} (asking : Asking O R) (o : OneThread S O R) (no_seen : TakesNoSeen asking o) where
+  same_takes : (op : O) (b : Bool) → asking.asks op ≡ b → (stripped asking (watched asking o)).takes op ≡ o.takes op
   same_takes op true is = rw is (sym (no_seen.takes op is))
   same_takes op false is = rw is refl
 
-  same_after : (state : S) (op : O) (b : Bool) → k.asks op ≡ b → (stripped k (watched k o)).after state op ≡ o.after state op
+  same_after : (state : S) (op : O) (b : Bool) → asking.asks op ≡ b → (stripped asking (watched asking o)).after state op ≡ o.after state op
   same_after state op true is = rw is (sym (no_seen.after op is state))
   same_after state op false is = rw is refl
 
-  same_reply : (state : S) (op : O) (b : Bool) → k.asks op ≡ b → (stripped k (watched k o)).reply state op ≡ o.reply state op
+  same_reply : (state : S) (op : O) (b : Bool) → asking.asks op ≡ b → (stripped asking (watched asking o)).reply state op ≡ o.reply state op
   same_reply state op true is = rw is (sym (no_seen.reply op is state))
   same_reply state op false is = rw is refl
 
-  pub stripped_back : stripped k (watched k o) ≡ o
+  pub stripped_back : stripped asking (watched asking o) ≡ o
   stripped_back = λ i. record {
     start = o.start;
-    takes = λ op. same_takes op (k.asks op) refl i;
-    after = λ state op. same_after state op (k.asks op) refl i;
-    reply = λ state op. same_reply state op (k.asks op) refl i;
+    takes = λ op. same_takes op (asking.asks op) refl i;
+    after = λ state op. same_after state op (asking.asks op) refl i;
+    reply = λ state op. same_reply state op (asking.asks op) refl i;
     swapped = o.swapped;
     is_ended = o.is_ended;
   }
 
 -- objects are one where the watched ones are
-pub inner_same : {S O R : Type 0} (k : Asking O R) (one other : OneThread S O R) → TakesNoSeen k one → TakesNoSeen k other → watched k one ≡ watched k other → one ≡ other
-inner_same k one other first second same = sym (stripped_back k one first) ∙ (ap (stripped k) same ∙ stripped_back k other second)
+pub inner_same : {S O R : Type 0} (asking : Asking O R) (one other : OneThread S O R) → TakesNoSeen asking one → TakesNoSeen asking other → watched asking one ≡ watched asking other → one ≡ other
+inner_same asking one other first second same = sym (stripped_back asking one first) ∙ (ap (stripped asking) same ∙ stripped_back asking other second)
 
 pub some_of : {p procs : ℕ} → p < procs → 0 < procs
 some_of less = omega (arith, less)
 
-module _ {S P O R : Type 0} (k : Asking O R) (ways : Ways S P O R) (tag : ℕ) (op : O) (not : k.asks op ≡ false) where
+module _ {S P O R : Type 0} (asking : Asking O R) (ways : Ways S P O R) (tag : ℕ) (op : O) (not : asking.asks op ≡ false) where
   pub inners-changed : (row : List (WatchPart P)) (cell : ℕ)
-      → inners (changed_at (λ part. (watched_ways k tag ways).part_after part op) row cell) ≡ changed_at (λ part. ways.part_after part op) (inners row) cell
+      → inners (changed_at (λ part. (watched_ways asking tag ways).part_after part op) row cell) ≡ changed_at (λ part. ways.part_after part op) (inners row) cell
   inners-changed [] cell = refl
   inners-changed (part ∷ row) zero = rw not refl
   inners-changed (part ∷ row) (suc cell) = ap (λ (rest : List _). part.inner ∷ rest) (inners-changed row cell)
 
-  pub seens-changed : (row : List (WatchPart P)) (cell : ℕ) → seens (changed_at (λ part. (watched_ways k tag ways).part_after part op) row cell) ≡ changed_at counted (seens row) cell
+  pub seens-changed : (row : List (WatchPart P)) (cell : ℕ) → seens (changed_at (λ part. (watched_ways asking tag ways).part_after part op) row cell) ≡ changed_at counted (seens row) cell
   seens-changed [] cell = refl
   seens-changed (part ∷ row) zero = rw not refl
   seens-changed (part ∷ row) (suc cell) = ap (λ (rest : List (Option ℕ)). part.seen ∷ rest) (seens-changed row cell)
 
   pub replied-changed : (row : List (WatchPart P)) (cell : ℕ)
-      → option_map (λ part. (watched_ways k tag ways).part_reply part op) (part_at row cell) ≡ option_map (λ part. ways.part_reply part op) (part_at (inners row) cell)
+      → option_map (λ part. (watched_ways asking tag ways).part_reply part op) (part_at row cell) ≡ option_map (λ part. ways.part_reply part op) (part_at (inners row) cell)
   replied-changed [] cell = refl
   replied-changed (part ∷ row) zero = rw not refl
   replied-changed (part ∷ row) (suc cell) = replied-changed row cell
 
-after_counts : {S O R : Type 0} (k : Asking O R) (o : OneThread S O R) (state : WatchState S) (op : O) → k.asks op ≡ false → (watched k o).after state op ≡ watch_state (o.after state.inner op) (counted state.seen)
-after_counts k o state op not = rw not refl
+after_counts : {S O R : Type 0} (asking : Asking O R) (o : OneThread S O R) (state : WatchState S) (op : O)
+    → asking.asks op ≡ false → (watched asking o).after state op ≡ watch_state (o.after state.inner op) (counted state.seen)
+after_counts asking o state op not = rw not refl
 
 -- an operation at one cell is the step of the watched object
-steps_at : {S P O R : Type 0} (k : Asking O R) (o : OneThread S O R) (ways : Ways S P O R) (Whole : List P → Type 0) (tag : ℕ) (row : List (WatchPart P)) (op : O) (cell : ℕ)
-    → k.asks op ≡ false → cell < length (seens row) → StepsRow o ways Whole (inners row) op (One cell) → IsWatchedRow tag Whole row
-    → StepsRow (watched k o) (watched_ways k tag ways) (IsWatchedRow tag Whole) row op (One cell)
-steps_at k o ways Whole tag row op cell not there steps kept =
-    let inner = inners-changed k ways tag op not row cell in
-    let seen = seens-changed k ways tag op not row cell in
+steps_at : {S P O R : Type 0} (asking : Asking O R) (o : OneThread S O R) (ways : Ways S P O R) (Whole : List P → Type 0) (tag : ℕ) (row : List (WatchPart P)) (op : O) (cell : ℕ)
+    → asking.asks op ≡ false → cell < length (seens row) → StepsRow o ways Whole (inners row) op (One cell) → IsWatchedRow tag Whole row
+    → StepsRow (watched asking o) (watched_ways asking tag ways) (IsWatchedRow tag Whole) row op (One cell)
+steps_at asking o ways Whole tag row op cell not there steps kept =
+    let inner = inners-changed asking ways tag op not row cell in
+    let seen = seens-changed asking ways tag op not row cell in
     record {
       whole = record {
         inner = subst Whole (sym inner) steps.whole;
@@ -98,15 +101,16 @@ steps_at k o ways Whole tag row op cell not there steps kept =
         small = subst (AllByRecursion IsSmall) (sym seen) (small-changed (seens row) cell kept.small);
         dead = λ is. subst (AllByRecursion CountsNot) (sym (seen ∙ none-same (seens row) cell (kept.dead is))) (kept.dead is);
       };
-      moved = (λ i. watch_state ((ap ways.combine inner ∙ steps.moved) i) ((ap count_of seen ∙ count-counted (seens row) cell there kept.alike) i)) ∙ sym (after_counts k o (watch_state (ways.combine (inners row)) (count_of (seens row))) op not);
-      replied = replied-changed k ways tag op not row cell ∙ (steps.replied ∙ ap Some (rw not refl));
+      moved = (λ i. watch_state ((ap ways.combine inner ∙ steps.moved) i) ((ap count_of seen ∙ count-counted (seens row) cell there kept.alike) i))
+          ∙ sym (after_counts asking o (watch_state (ways.combine (inners row)) (count_of (seens row))) op not);
+      replied = replied-changed asking ways tag op not row cell ∙ (steps.replied ∙ ap Some (rw not refl));
     }
 
 -- an operation at all cells counts at the first
-steps_all_at : {S P O R : Type 0} (k : Asking O R) (o : OneThread S O R) (ways : Ways S P O R) (Whole : List P → Type 0) (tag : ℕ) (row : List (WatchPart P)) (op : O)
-    → k.asks op ≡ false → 0 < length row → length (ways.row_after (inners row) op) ≡ length row → StepsRow o ways Whole (inners row) op All → IsWatchedRow tag Whole row
-    → StepsRow (watched k o) (watched_ways k tag ways) (IsWatchedRow tag Whole) row op All
-steps_all_at k o ways Whole tag row op not some same steps kept =
+steps_all_at : {S P O R : Type 0} (asking : Asking O R) (o : OneThread S O R) (ways : Ways S P O R) (Whole : List P → Type 0) (tag : ℕ) (row : List (WatchPart P)) (op : O)
+    → asking.asks op ≡ false → 0 < length row → length (ways.row_after (inners row) op) ≡ length row → StepsRow o ways Whole (inners row) op All → IsWatchedRow tag Whole row
+    → StepsRow (watched asking o) (watched_ways asking tag ways) (IsWatchedRow tag Whole) row op All
+steps_all_at asking o ways Whole tag row op not some same steps kept =
     let after = ways.row_after (inners row) op in
     let news = changed_at counted (seens row) 0 in
     let size : length after ≡ length news = same ∙ (sym (length-seens row) ∙ sym (length-changed counted (seens row) 0)) in
@@ -124,42 +128,42 @@ steps_all_at k o ways Whole tag row op not some same steps kept =
       replied = rw not steps.replied;
     }
 
-seen_within : (tag procs : ℕ) (t : Bool) → (tag == 1) ≡ t → 0 < procs → IsWithin (cells_of tag procs) (seen_reach tag)
+seen_within : (tag procs : ℕ) (t : Bool) → (tag == 1) ≡ t → 0 < procs → IsWithin (cells_of tag procs) (asking_reach tag)
 seen_within tag procs true is some = rw is some
 seen_within tag procs false is some = rw is (omega arith)
 
-pub reaches_watched : {S P O R : Type 0} (k : Asking O R) (o : OneThread S O R) (ways : Ways S P O R) (tag procs proc : ℕ) (op : O) (b : Bool) → k.asks op ≡ b → 0 < procs
+pub reaches_watched : {S P O R : Type 0} (asking : Asking O R) (o : OneThread S O R) (ways : Ways S P O R) (tag procs proc : ℕ) (op : O) (b : Bool) → asking.asks op ≡ b → 0 < procs
     → (IsTrue (o.takes op) → IsWithin (cells_of tag procs) (ways.reach procs op proc))
-    → IsTrue ((watched k o).takes op) → IsWithin (cells_of tag procs) ((watched_ways k tag ways).reach procs op proc)
-reaches_watched k o ways tag procs proc op false is some within takes = rw is (within (rw is at takes))
-reaches_watched k o ways tag procs proc op true is some within takes = rw is (seen_within tag procs (tag == 1) refl some)
+    → IsTrue ((watched asking o).takes op) → IsWithin (cells_of tag procs) ((watched_ways asking tag ways).reach procs op proc)
+reaches_watched asking o ways tag procs proc op false is some within takes = rw is (within (rw is at takes))
+reaches_watched asking o ways tag procs proc op true is some within takes = rw is (seen_within tag procs (tag == 1) refl some)
 
 -- who asks for the count leaves the row, and is told what all count together
-module _ {S P O R : Type 0} (k : Asking O R) (o : OneThread S O R) (ways : Ways S P O R) (Whole : List P → Type 0) (tag : ℕ) (row : List (WatchPart P)) (op : O) (is : k.asks op ≡ true)
+module _ {S P O R : Type 0} (asking : Asking O R) (o : OneThread S O R) (ways : Ways S P O R) (Whole : List P → Type 0) (tag : ℕ) (row : List (WatchPart P)) (op : O) (is : asking.asks op ≡ true)
     (kept : IsWatchedRow tag Whole row) (ends : o.is_ended (ways.combine (inners row)) ≡ (tag == 2)) where
-  told_all : Some (k.tells (tag == 2) (count_of (seens row))) ≡ Some (k.tells (o.is_ended (ways.combine (inners row))) (count_of (seens row)))
-  told_all = ap (λ dead. Some (k.tells dead (count_of (seens row)))) (sym ends)
+  told_all : Some (asking.tells (tag == 2) (count_of (seens row))) ≡ Some (asking.tells (o.is_ended (ways.combine (inners row))) (count_of (seens row)))
+  told_all = ap (λ dead. Some (asking.tells dead (count_of (seens row)))) (sym ends)
 
-  seen_all : StepsRow (watched k o) (watched_ways k tag ways) (IsWatchedRow tag Whole) row op All
+  seen_all : StepsRow (watched asking o) (watched_ways asking tag ways) (IsWatchedRow tag Whole) row op All
   seen_all = record { whole = rw is kept; moved = rw is refl; replied = rw is told_all }
 
 -- and at one cell, where there is no other
-seen_one : {S P O R : Type 0} (k : Asking O R) (o : OneThread S O R) (ways : Ways S P O R) (Whole : List P → Type 0) (tag : ℕ) (row : List (WatchPart P)) (op : O) → k.asks op ≡ true
+seen_one : {S P O R : Type 0} (asking : Asking O R) (o : OneThread S O R) (ways : Ways S P O R) (Whole : List P → Type 0) (tag : ℕ) (row : List (WatchPart P)) (op : O) → asking.asks op ≡ true
     → IsWatchedRow tag Whole row → o.is_ended (ways.combine (inners row)) ≡ (tag == 2) → length row ≡ 1
-    → StepsRow (watched k o) (watched_ways k tag ways) (IsWatchedRow tag Whole) row op (One 0)
-seen_one k o ways Whole tag [] op is kept ends alone = absurd cc
-seen_one k o ways Whole tag (part ∷ []) op is kept ends alone = record {
+    → StepsRow (watched asking o) (watched_ways asking tag ways) (IsWatchedRow tag Whole) row op (One 0)
+seen_one asking o ways Whole tag [] op is kept ends alone = absurd cc
+seen_one asking o ways Whole tag (part ∷ []) op is kept ends alone = record {
   whole = rw is kept;
   moved = rw is refl;
-  replied = rw is (ap (λ seen. Some (k.tells (tag == 2) seen)) (count-alone part.seen kept.small.0) ∙ told_all k o ways Whole tag (part ∷ []) op is kept ends);
+  replied = rw is (ap (λ seen. Some (asking.tells (tag == 2) seen)) (count-alone part.seen kept.small.0) ∙ told_all asking o ways Whole tag (part ∷ []) op is kept ends);
 }
-seen_one k o ways Whole tag (part ∷ other ∷ row) op is kept ends alone = absurd cc
+seen_one asking o ways Whole tag (part ∷ other ∷ row) op is kept ends alone = absurd cc
 
 cells_some : (tag procs : ℕ) (t : Bool) → (tag == 1) ≡ t → 0 < procs → 0 < cells_of tag procs
 cells_some tag procs true is some = rw is some
 cells_some tag procs false is some = rw is (omega arith)
 
-module _ {S P O R : Type 0} (k : Asking O R) (o : OneThread S O R) (ways : Ways S P O R) (Whole : List P → Type 0) (Serves : S → Type 0) (tag procs : ℕ) (some : 0 < procs)
+module _ {S P O R : Type 0} (asking : Asking O R) (o : OneThread S O R) (ways : Ways S P O R) (Whole : List P → Type 0) (Serves : S → Type 0) (tag procs : ℕ) (some : 0 < procs)
     (stands : (parts : List P) → Whole parts → StandsFor ways Serves tag procs parts) (ends : (state : S) → Serves state → o.is_ended state ≡ (tag == 2))
     (row : List (WatchPart P)) (op : O) (kept : IsWatchedRow tag Whole row) where
   sized : length row ≡ cells_of tag procs
@@ -171,48 +175,56 @@ module _ {S P O R : Type 0} (k : Asking O R) (o : OneThread S O R) (ways : Ways 
   filled : 0 < length row
   filled = subst (λ n. 0 < n) (sym sized) (cells_some tag procs (tag == 1) refl some)
 
-  seen_steps : (t : Bool) → (tag == 1) ≡ t → k.asks op ≡ true → StepsRow (watched k o) (watched_ways k tag ways) (IsWatchedRow tag Whole) row op (seen_reach tag)
-  seen_steps true t is = subst (StepsRow (watched k o) (watched_ways k tag ways) (IsWatchedRow tag Whole) row op) (sym (ap (λ (b : Bool). if b then All else One 0) t)) (seen_all k o ways Whole tag row op is kept ended)
-  seen_steps false t is = subst (StepsRow (watched k o) (watched_ways k tag ways) (IsWatchedRow tag Whole) row op) (sym (ap (λ (b : Bool). if b then All else One 0) t)) (seen_one k o ways Whole tag row op is kept ended (sized ∙ ap (λ (b : Bool). if b then procs else 1) t))
+  seen_steps : (t : Bool) → (tag == 1) ≡ t → asking.asks op ≡ true → StepsRow (watched asking o) (watched_ways asking tag ways) (IsWatchedRow tag Whole) row op (asking_reach tag)
+  seen_steps true t is =
+      subst (StepsRow (watched asking o) (watched_ways asking tag ways) (IsWatchedRow tag Whole) row op) (sym (ap (λ (b : Bool). if b then All else One 0) t))
+      (seen_all asking o ways Whole tag row op is kept ended)
+  seen_steps false t is =
+      subst (StepsRow (watched asking o) (watched_ways asking tag ways) (IsWatchedRow tag Whole) row op) (sym (ap (λ (b : Bool). if b then All else One 0) t))
+      (seen_one asking o ways Whole tag row op is kept ended (sized ∙ ap (λ (b : Bool). if b then procs else 1) t))
 
-  pub all_steps : (b : Bool) → k.asks op ≡ b → IsTrue ((watched k o).takes op) → (IsTrue (o.takes op) → StepsRow o ways Whole (inners row) op All)
-      → StepsRow (watched k o) (watched_ways k tag ways) (IsWatchedRow tag Whole) row op All
-  all_steps true is takes own = seen_all k o ways Whole tag row op is kept ended
+  pub all_steps : (b : Bool) → asking.asks op ≡ b → IsTrue ((watched asking o).takes op) → (IsTrue (o.takes op) → StepsRow o ways Whole (inners row) op All)
+      → StepsRow (watched asking o) (watched_ways asking tag ways) (IsWatchedRow tag Whole) row op All
+  all_steps true is takes own = seen_all asking o ways Whole tag row op is kept ended
   all_steps false is takes own =
       let steps = own (rw is at takes) in
-      steps_all_at k o ways Whole tag row op is filled ((stands (ways.row_after (inners row) op) steps.whole).sized ∙ sym sized) steps kept
+      steps_all_at asking o ways Whole tag row op is filled ((stands (ways.row_after (inners row) op) steps.whole).sized ∙ sym sized) steps kept
 
-  own_steps : (reach : Reach) → k.asks op ≡ false → StepsRow o ways Whole (inners row) op reach → IsWithin (cells_of tag procs) reach
-      → StepsRow (watched k o) (watched_ways k tag ways) (IsWatchedRow tag Whole) row op reach
-  own_steps (One cell) is steps within = steps_at k o ways Whole tag row op cell is (subst (λ n. cell < n) (sym (length-seens row ∙ sized)) within) steps kept
-  own_steps All is steps within = steps_all_at k o ways Whole tag row op is filled ((stands (ways.row_after (inners row) op) steps.whole).sized ∙ sym sized) steps kept
+  own_steps : (reach : Reach) → asking.asks op ≡ false → StepsRow o ways Whole (inners row) op reach → IsWithin (cells_of tag procs) reach
+      → StepsRow (watched asking o) (watched_ways asking tag ways) (IsWatchedRow tag Whole) row op reach
+  own_steps (One cell) is steps within = steps_at asking o ways Whole tag row op cell is (subst (λ n. cell < n) (sym (length-seens row ∙ sized)) within) steps kept
+  own_steps All is steps within = steps_all_at asking o ways Whole tag row op is filled ((stands (ways.row_after (inners row) op) steps.whole).sized ∙ sym sized) steps kept
 
-  pub reached_steps : (proc : ℕ) (b : Bool) → k.asks op ≡ b → IsTrue ((watched k o).takes op) → (IsTrue (o.takes op) → StepsRow o ways Whole (inners row) op (ways.reach procs op proc))
+  pub reached_steps : (proc : ℕ) (b : Bool) → asking.asks op ≡ b → IsTrue ((watched asking o).takes op) → (IsTrue (o.takes op) → StepsRow o ways Whole (inners row) op (ways.reach procs op proc))
       → (IsTrue (o.takes op) → IsWithin (cells_of tag procs) (ways.reach procs op proc))
-      → StepsRow (watched k o) (watched_ways k tag ways) (IsWatchedRow tag Whole) row op ((watched_ways k tag ways).reach procs op proc)
-  reached_steps proc true is takes own within = subst (StepsRow (watched k o) (watched_ways k tag ways) (IsWatchedRow tag Whole) row op) (sym (rw is refl)) (seen_steps (tag == 1) refl is)
-  reached_steps proc false is takes own within = subst (StepsRow (watched k o) (watched_ways k tag ways) (IsWatchedRow tag Whole) row op) (sym (rw is refl)) (own_steps (ways.reach procs op proc) is (own (rw is at takes)) (within (rw is at takes)))
+      → StepsRow (watched asking o) (watched_ways asking tag ways) (IsWatchedRow tag Whole) row op ((watched_ways asking tag ways).reach procs op proc)
+  reached_steps proc true is takes own within = subst (StepsRow (watched asking o) (watched_ways asking tag ways) (IsWatchedRow tag Whole) row op) (sym (rw is refl)) (seen_steps (tag == 1) refl is)
+  reached_steps proc false is takes own within =
+      subst (StepsRow (watched asking o) (watched_ways asking tag ways) (IsWatchedRow tag Whole) row op) (sym (rw is refl))
+      (own_steps (ways.reach procs op proc) is (own (rw is at takes)) (within (rw is at takes)))
 
-pub stands_watched : {S P O R : Type 0} (k : Asking O R) (ways : Ways S P O R) (Whole : List P → Type 0) (Serves : S → Type 0) (tag procs : ℕ) (row : List (WatchPart P))
-    → IsWatchedRow tag Whole row → StandsFor ways Serves tag procs (inners row) → StandsFor (watched_ways k tag ways) (ServesWatched tag Serves) tag procs row
-stands_watched k ways Whole Serves tag procs row kept stands = record {
+pub stands_watched : {S P O R : Type 0} (asking : Asking O R) (ways : Ways S P O R) (Whole : List P → Type 0) (Serves : S → Type 0) (tag procs : ℕ) (row : List (WatchPart P))
+    → IsWatchedRow tag Whole row → StandsFor ways Serves tag procs (inners row) → StandsFor (watched_ways asking tag ways) (ServesWatched tag Serves) tag procs row
+stands_watched asking ways Whole Serves tag procs row kept stands = record {
   sized = sym (length-inners row) ∙ stands.sized;
   served = record { inner = stands.served; small = count-small (seens row); dead = λ is. count-none (seens row) (kept.dead is) };
 }
 
-inners-made : {S P O R : Type 0} (k : Asking O R) (ways : Ways S P O R) (tag procs first many : ℕ) → inners (made_from ((watched_ways k tag ways).empty procs) first many) ≡ made_from (ways.empty procs) first many
-inners-made k ways tag procs first zero = refl
-inners-made k ways tag procs first (suc many) = ap (λ (rest : List _). ways.empty procs first ∷ rest) (inners-made k ways tag procs (suc first) many)
+inners-made : {S P O R : Type 0} (asking : Asking O R) (ways : Ways S P O R) (tag procs first many : ℕ)
+    → inners (made_from ((watched_ways asking tag ways).empty procs) first many) ≡ made_from (ways.empty procs) first many
+inners-made asking ways tag procs first zero = refl
+inners-made asking ways tag procs first (suc many) = ap (λ (rest : List _). ways.empty procs first ∷ rest) (inners-made asking ways tag procs (suc first) many)
 
-none-made : {S P O R : Type 0} (k : Asking O R) (ways : Ways S P O R) (tag procs first many : ℕ) → AllByRecursion CountsNot (seens (made_from ((watched_ways k tag ways).empty procs) first many))
-none-made k ways tag procs first zero = tt
-none-made k ways tag procs first (suc many) = (tt, none-made k ways tag procs (suc first) many)
+none-made : {S P O R : Type 0} (asking : Asking O R) (ways : Ways S P O R) (tag procs first many : ℕ)
+    → AllByRecursion CountsNot (seens (made_from ((watched_ways asking tag ways).empty procs) first many))
+none-made asking ways tag procs first zero = tt
+none-made asking ways tag procs first (suc many) = (tt, none-made asking ways tag procs (suc first) many)
 
-pub begins_watched : {S P O R : Type 0} (k : Asking O R) (o : OneThread S O R) (ways : Ways S P O R) (Whole : List P → Type 0) (tag procs : ℕ) → Begins o ways Whole tag procs
-    → Begins (watched k o) (watched_ways k tag ways) (IsWatchedRow tag Whole) tag procs
-begins_watched k o ways Whole tag procs begins =
-    let inner = inners-made k ways tag procs 0 (cells_of tag procs) in
-    let none = none-made k ways tag procs 0 (cells_of tag procs) in
+pub begins_watched : {S P O R : Type 0} (asking : Asking O R) (o : OneThread S O R) (ways : Ways S P O R) (Whole : List P → Type 0) (tag procs : ℕ) → Begins o ways Whole tag procs
+    → Begins (watched asking o) (watched_ways asking tag ways) (IsWatchedRow tag Whole) tag procs
+begins_watched asking o ways Whole tag procs begins =
+    let inner = inners-made asking ways tag procs 0 (cells_of tag procs) in
+    let none = none-made asking ways tag procs 0 (cells_of tag procs) in
     record {
       whole = record {
         inner = subst Whole (sym inner) begins.whole;
@@ -223,10 +235,10 @@ begins_watched k o ways Whole tag procs begins =
       empty = λ live. λ i. watch_state ((ap ways.combine inner ∙ begins.empty live) i) (count-none _ none i);
     }
 
-pub imports_watched : {S P O R : Type 0} (k : Asking O R) (ways : Ways S P O R) (Whole : List P → Type 0) (Serves : S → Type 0) (tag procs : ℕ) (state : WatchState S) → 0 < procs
+pub imports_watched : {S P O R : Type 0} (asking : Asking O R) (ways : Ways S P O R) (Whole : List P → Type 0) (Serves : S → Type 0) (tag procs : ℕ) (state : WatchState S) → 0 < procs
     → ServesWatched tag Serves state → Imports ways Whole procs state.inner → ((parts : List P) → Whole parts → StandsFor ways Serves tag procs parts)
-    → Imports (watched_ways k tag ways) (IsWatchedRow tag Whole) procs state
-imports_watched k ways Whole Serves tag procs state some kept imports stands =
+    → Imports (watched_ways asking tag ways) (IsWatchedRow tag Whole) procs state
+imports_watched asking ways Whole Serves tag procs state some kept imports stands =
     let parts = ways.imported procs state.inner in
     let inner = inners-shared state.seen parts in
     let filled : 0 < length parts = subst (λ n. 0 < n) (sym (stands parts imports.whole).sized) (cells_some tag procs (tag == 1) refl some) in
@@ -258,25 +270,25 @@ admits_watched Serves admitted tag layer state small served = record {
 }
 
 -- a swap to a live layout leaves the state, and so do a watch and an unwatch
-module _ {S O R : Type 0} (k : Asking O R) (o : OneThread S O R) (keeps : KeepsState o) (inner admitted : S) (seen : Option ℕ) (number : ℕ) (act : Act O) (name : LayoutName)
+module _ {S O R : Type 0} (asking : Asking O R) (o : OneThread S O R) (keeps : KeepsState o) (inner admitted : S) (seen : Option ℕ) (number : ℕ) (act : Act O) (name : LayoutName)
     (is : act ≡ Swap (tos.Layout name)) (same : o.swapped inner (tos.Layout name) ≡ admitted) where
   left : inner ≡ admitted
   left = sym (keeps inner (tos.Layout name) (λ dead. cc dead)) ∙ same
 
-  swaps_live : (layer : Layer) → state_moved (watched k o) (watch_state inner seen) (act_under layer act) (Swapped number) ≡ watch_state admitted (seen_under layer seen)
-  swaps_live Keep = ap (λ (asked : Act O). state_moved (watched k o) (watch_state inner seen) asked (Swapped number)) is ∙ ap (λ (state : S). watch_state state seen) same
+  swaps_live : (layer : Layer) → state_moved (watched asking o) (watch_state inner seen) (act_under layer act) (Swapped number) ≡ watch_state admitted (seen_under layer seen)
+  swaps_live Keep = ap (λ (asked : Act O). state_moved (watched asking o) (watch_state inner seen) asked (Swapped number)) is ∙ ap (λ (state : S). watch_state state seen) same
   swaps_live Place = ap (λ (state : S). watch_state state (Some 0)) (keeps inner tos.Watch (λ dead. cc dead) ∙ left)
   swaps_live Take = ap (λ (state : S). watch_state state None) (keeps inner tos.Unwatch (λ dead. cc dead) ∙ left)
 
-pub swaps_watched : {S O R : Type 0} (k : Asking O R) (o : OneThread S O R) (admitted : S → S) (tag : ℕ) (layer : Layer) (act : Act O) (state : WatchState S) → KeepsState o → AsksByTag tag act
-    → AdmitsAsSwapped o act state.inner (admitted state.inner) → AdmitsAsSwapped (watched k o) (watched_act tag layer act) state (admitted_watched tag layer admitted state)
-swaps_watched {O} k o admitted tag layer act state keeps (inl live) swaps number =
-    ap (λ (b : Bool). state_moved (watched k o) state (if b then Swap tos.Dead else act_under layer act) (Swapped number)) live.live
-    ∙ swaps_live k o keeps state.inner (admitted state.inner) state.seen number act live.name live.act
+pub swaps_watched : {S O R : Type 0} (asking : Asking O R) (o : OneThread S O R) (admitted : S → S) (tag : ℕ) (layer : Layer) (act : Act O) (state : WatchState S) → KeepsState o → AsksByTag tag act
+    → AdmitsAsSwapped o act state.inner (admitted state.inner) → AdmitsAsSwapped (watched asking o) (watched_act tag layer act) state (admitted_watched tag layer admitted state)
+swaps_watched {O} asking o admitted tag layer act state keeps (inl live) swaps number =
+    ap (λ (b : Bool). state_moved (watched asking o) state (if b then Swap tos.Dead else act_under layer act) (Swapped number)) live.live
+    ∙ swaps_live asking o keeps state.inner (admitted state.inner) state.seen number act live.name live.act
     (subst (λ (asked : Act O). state_moved o state.inner asked (Swapped number) ≡ admitted state.inner) live.act (swaps number)) layer
     ∙ ap (λ (b : Bool). watch_state (admitted state.inner) (if b then None else seen_under layer state.seen)) (sym live.live)
-swaps_watched {O} k o admitted tag layer act state keeps (inr dead) swaps number =
-    ap (λ (b : Bool). state_moved (watched k o) state (if b then Swap tos.Dead else act_under layer act) (Swapped number)) dead.dead
+swaps_watched {O} asking o admitted tag layer act state keeps (inr dead) swaps number =
+    ap (λ (b : Bool). state_moved (watched asking o) state (if b then Swap tos.Dead else act_under layer act) (Swapped number)) dead.dead
     ∙ ap (λ (left : _). watch_state left None) (subst (λ (asked : Act O). state_moved o state.inner asked (Swapped number) ≡ admitted state.inner) dead.act (swaps number))
     ∙ ap (λ (b : Bool). watch_state (admitted state.inner) (if b then None else seen_under layer state.seen)) (sym dead.dead)
 
@@ -292,11 +304,12 @@ asks_if false layer act asks = asks_under layer act asks
 pub asks_watched : {O : Type 0} (tag : ℕ) (layer : Layer) (act : Act O) → is_call act ≡ false → is_call (watched_act tag layer act) ≡ false
 asks_watched tag layer act asks = asks_if (tag == 2) layer act asks
 
-pub agree_watched : {S P O R : Type 0} (k : Asking O R) (these those : Ways S P O R) (Whole Other : ℕ → List P → Type 0) (Serves OtherServes : S → Type 0) (tag tags : ℕ)
+pub agree_watched : {S P O R : Type 0} (asking : Asking O R) (these those : Ways S P O R) (Whole Other : ℕ → List P → Type 0) (Serves OtherServes : S → Type 0) (tag tags : ℕ)
     → tag ≡ tags → Agree these those Whole Other Serves OtherServes
-    → Agree (watched_ways k tag these) (watched_ways k tags those) (λ procs. IsWatchedRow tag (Whole procs)) (λ procs. IsWatchedRow tags (Other procs)) (ServesWatched tag Serves) (ServesWatched tags OtherServes)
-agree_watched k these those Whole Other Serves OtherServes tag tags same is = record {
-  ways = λ i. watched_ways k (same i) (is.ways i);
+    → Agree (watched_ways asking tag these) (watched_ways asking tags those) (λ procs. IsWatchedRow tag (Whole procs)) (λ procs. IsWatchedRow tags (Other procs))
+    (ServesWatched tag Serves) (ServesWatched tags OtherServes)
+agree_watched asking these those Whole Other Serves OtherServes tag tags same is = record {
+  ways = λ i. watched_ways asking (same i) (is.ways i);
   whole = λ procs row kept. record { inner = is.whole procs (inners row) kept.inner; alike = kept.alike; small = kept.small; dead = λ dead. kept.dead (same ∙ dead) };
   served = λ state kept. record { inner = is.served state.inner kept.inner; small = kept.small; dead = λ dead. kept.dead (same ∙ dead) };
 }

@@ -68,24 +68,24 @@ shared_out seen [] = []
 shared_out seen (part ∷ parts) = watch_part part seen ∷ shared_out (from_zero seen) parts
 
 -- the count of a spread object is asked at all cells
-abbrev pub seen_reach : ℕ → Reach
-seen_reach tag = if tag == 1 then All else One 0
+abbrev pub asking_reach : ℕ → Reach
+asking_reach tag = if tag == 1 then All else One 0
 
--- The layer answers `seen` by itself. It counts every other operation at the cell that it needs, and
--- an operation at all cells at the first.
+-- The layer tells the count by itself to who asks for it. It counts every other operation at the cell that
+-- it needs, and an operation at all cells at the first.
 abbrev pub watched_ways : {S P O R : Type 0} → Asking O R → ℕ → Ways S P O R → Ways (WatchState S) (WatchPart P) O R
-watched_ways k tag ways = record {
-  reach = λ procs op proc. if k.asks op then seen_reach tag else ways.reach procs op proc;
+watched_ways asking tag ways = record {
+  reach = λ procs op proc. if asking.asks op then asking_reach tag else ways.reach procs op proc;
   empty = λ procs cell. watch_part (ways.empty procs cell) None;
   part_after = λ part op.
-      if k.asks op then part else watch_part (ways.part_after part.inner op) (counted part.seen);
+      if asking.asks op then part else watch_part (ways.part_after part.inner op) (counted part.seen);
   part_reply = λ part op.
-      if k.asks op then k.tells (tag == 2) part.seen else ways.part_reply part.inner op;
+      if asking.asks op then asking.tells (tag == 2) part.seen else ways.part_reply part.inner op;
   row_after = λ row op.
-      if k.asks op then row
+      if asking.asks op then row
       else rejoined (ways.row_after (inners row) op) (changed_at counted (seens row) 0);
   row_reply = λ row op.
-      if k.asks op then k.tells (tag == 2) (count_of (seens row)) else ways.row_reply (inners row) op;
+      if asking.asks op then asking.tells (tag == 2) (count_of (seens row)) else ways.row_reply (inners row) op;
   combine = λ row. watch_state (ways.combine (inners row)) (count_of (seens row));
   imported = λ procs state. shared_out state.seen (ways.imported procs state.inner);
 }

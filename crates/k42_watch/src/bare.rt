@@ -10,9 +10,13 @@ pub trait Bare: Layout {
     /// Which operations ask for the count, and what they are told.
     ghost asking: { Asking Self.Op Self.Reply };
 
+    /// Whether the operation asks for the count: how many calls there were since the layer was placed,
+    /// modulo 2^64. A layout whose `asking` asks nothing has a count that nobody can read.
     fn asks_count(op: &Self::Op) -> bool
         ensures { result ≡ asking.asks op.now };
 
+    /// What is told of the count, by whether the object is dead; the count is `None` where there is
+    /// no layer.
     fn tell_count(dead: bool, seen: Option<u64>) -> Self::Reply
         ensures { result ≡ asking.tells dead seen };
 

@@ -231,8 +231,8 @@ impl<L: Bare> Layout for Watch<L> {
         laws.begins_watched L.asking (L.object watch.inner) (L.ways watch.inner) (L.whole watch.inner procs) (L.tag_of
         watch.inner) procs (L.begins watch.inner procs known some) };
 
-    ghost imports = { λ watch procs state known some kept. laws.imports_watched L.asking (L.ways watch.inner) (L.whole watch.inner procs) (L.serves watch.inner)
-        (L.tag_of watch.inner) procs state some kept
+    ghost imports = { λ watch procs state known some kept.
+        laws.imports_watched L.asking (L.ways watch.inner) (L.whole watch.inner procs) (L.serves watch.inner) (L.tag_of watch.inner) procs state some kept
         (L.imports watch.inner procs state.inner known some kept.inner) (λ parts whole. L.stands watch.inner procs parts known some whole) };
 
     ghost ends = { λ watch state known served. L.ends watch.inner state.inner known served.inner };

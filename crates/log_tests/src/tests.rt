@@ -3,20 +3,21 @@ ghost use Rattle.std.specs.Prelude.{◌≡◌, ◌<◌, ◌+◌, None, Some, fal
 ghost use Rattle.k42_log.specs.Names.{is_reply};
 ghost use Rattle.k42_log.specs.Logs.{next_index};
 
-use k42_kinds::{Act, Answer, Entry, LayoutName, Name, Op, Reply, Text, To};
+use crate::badge::{BadgeOp, BadgeReply};
+use k42_kinds::{Act, Answer, Entry, LayoutName, Name, Op, Packed, PackedReply, Reply, Text, To};
 use k42_log::Log;
 use k42_memory::Memory;
 use std::alloc::Global;
 use std::test::Fail;
 
 /// An entry of caller 15 on processor 7, at the last object and cell that there are.
-fn entry_of(
+fn entry_of<O: Copy, R: Copy>(
     stamp: u64,
     index: u64,
     generation: Option<u32>,
-    act: &Act<Op>,
-    answer: &Answer<Reply>,
-) -> Entry<Op, Reply>
+    act: &Act<O>,
+    answer: &Answer<R>,
+) -> Entry<O, R>
     ensures { result ≡ record {
       stamp = stamp;
       index = index;
@@ -45,7 +46,7 @@ fn entry_of(
 }
 
 /// A log of these calls. Their stamps are even.
-fn log_of(alloc: Global, calls: &[(Op, Reply)]) -> Result<Log<Op, Reply>, Memory>
+fn log_of<O: Packed, R: PackedReply>(alloc: Global, calls: &[(O, R)]) -> Result<Log<O, R>, Memory>
     requires { length calls.now < 100 }
 {
     let mut log = Log::new(alloc, 15, 7, 0);
@@ -97,6 +98,35 @@ fn a_call_of_every_kind_is_read_back(rt: HostRuntime) -> Result<(), Fail> {
         let entry = unread.next().ok_or("no entry")?;
         let due = entry_of(
             stamp,
+            place as u64,
+            Some(place as u32),
+            &Act::Call(*op),
+            &Answer::Replied(*reply),
+        );
+        assert_eq!(rt; entry, due);
+    }
+    assert!(rt; unread.next().is_none());
+    Ok(())
+}
+
+#[test]
+fn calls_of_another_kind_are_read_back(rt: HostRuntime) -> Result<(), Fail> {
+    let short = Name::of(b"a").ok_or("no name")?;
+    let long = Name::of(b"abcdefghijklmnop").ok_or("no name")?;
+    let mark = Text::of(b"!").ok_or("no text")?;
+    let text = Text::of(b"abcdefghijklmnopqrstuvwxyz012345").ok_or("no text")?;
+    let calls = [
+        (BadgeOp::Number(u64::MAX), BadgeReply::Reads(mark)),
+        (BadgeOp::Give(long), BadgeReply::Bore(0)),
+        (BadgeOp::Number(1), BadgeReply::Bore(u64::MAX)),
+        (BadgeOp::Give(short), BadgeReply::Reads(text)),
+    ];
+    let log = log_of(rt.alloc(), &calls)?;
+    let mut unread = log.unread();
+    for (place, (op, reply)) in calls.iter().enumerate() {
+        let entry = unread.next().ok_or("no entry")?;
+        let due = entry_of(
+            2 * place as u64,
             place as u64,
             Some(place as u32),
             &Act::Call(*op),

@@ -1,11 +1,14 @@
-use Rattle.std.proofs.Common.{◌∙◌, [], ◌∷◌, ◌++◌, ap, sym, subst}
-use Rattle.k42_log.specs.Logs.{IsNextOf, LogSeen}
-use Rattle.k42_log.proofs.Pushed.{swap_pushed}
+use Rattle.std.proofs.Common.{◌∙◌, ◌<◌, [], ◌∷◌, ◌++◌, ap, sym, subst}
+use Rattle.k42_limits.specs.declared.TheConstants.{PASS_ENTRIES}
+use Rattle.k42_log.specs.Stored.{details_in}
+use Rattle.k42_log.specs.Logs.{IsNextOf, LogSeen, next_index}
+use Rattle.k42_log.proofs.Pushed.{Gives, fits_pushed, swap_pushed}
 use Rattle.k42_log.proofs.log.Log.push.Goals as goal
 
-pub returns-in-Swap-clause-entries : goal.returns-in-Swap-clause-entries
-returns-in-Swap-clause-entries g c =
-    (swap_pushed g.O.Packed.packing g.R.Packed.packing c.self.inside c.args.entry.now c.in-Swap.to
+given : (g : _) (c : goal.After-push_reserved g)
+    → Gives g.O.Packed.packing g.R.Packed.packing c.self.inside c.push_reserved.new.self.items (details_in c.self.inside.stored) c.args.entry.now
+given g c =
+    swap_pushed g.O.Packed.packing g.R.Packed.packing c.self.inside c.args.entry.now c.in-Swap.to
     (record {
       stamp = c.args.entry.now.stamp;
       incarnation = c.args.entry.now.incarnation;
@@ -24,5 +27,16 @@ returns-in-Swap-clause-entries g c =
       act = c.to_name.ensures i;
       answer = c.end_name.ensures i;
     })
-    c.push_reserved.ensures.items).entries
-    ∙ ap (λ (log : LogSeen _ _). log.entries ++ c.args.entry.now ∷ []) c.self.view_is
+    c.push_reserved.ensures.items
+
+pub invariant_of-self : goal.invariant_of-self
+invariant_of-self g c = record {
+  whole = (given g c).whole;
+  fits = fits_pushed g.O.Packed.packing g.R.Packed.packing c.self.inside _ _
+      (subst (λ (log : LogSeen _ _). next_index log < PASS_ENTRIES) (sym c.self.view_is) (subst (λ n. n < PASS_ENTRIES) c.requires.next.index c.requires.next.few))
+      c.push_reserved.ensures.items;
+}
+
+pub returns-in-Swap-clause-entries : goal.returns-in-Swap-clause-entries
+returns-in-Swap-clause-entries g c =
+    (given g c).entries ∙ ap (λ (log : LogSeen _ _). log.entries ++ c.args.entry.now ∷ []) c.self.view_is

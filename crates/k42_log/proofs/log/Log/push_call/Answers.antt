@@ -22,7 +22,7 @@ given g c =
       place = c.place_of.result;
       act = c.label-asked.result.tag;
       answer = c.label-told.result.tag;
-    }) _ _ _ c.self.invariant c.requires.object c.label-asked.ensures.packed (record { packed = c.label-told.ensures.packed; low = g.met.R.PackedReply.low c.args.reply.now })
+    }) _ _ _ c.self.invariant c.requires.object c.label-asked.ensures.packed (record { packed = c.label-told.ensures.packed; low = c.label_is_low.ensures })
     (λ i. record {
       stamp = c.args.stamp;
       incarnation = c.args.row;
@@ -36,7 +36,9 @@ given g c =
 pub invariant_of-self : goal.invariant_of-self
 invariant_of-self g c = record {
   whole = (given g c).whole;
-  fits = fits_pushed g.O.Packed.packing g.R.Packed.packing c.self.inside _ _ (subst (λ (log : LogSeen _ _). next_index log < PASS_ENTRIES) (sym c.self.view_is) c.requires.few) c.push_reserved.ensures.items;
+  fits = fits_pushed g.O.Packed.packing g.R.Packed.packing c.self.inside _ _
+      (subst (λ (log : LogSeen _ _). next_index log < PASS_ENTRIES) (sym c.self.view_is) c.requires.few)
+      c.push_reserved.ensures.items;
 }
 
 pub returns-clause-entries : goal.returns-clause-entries
