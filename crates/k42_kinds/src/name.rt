@@ -20,7 +20,7 @@ use std::marker::Model;
 #[derive(Clone, Copy, Debug)]
 pub struct Name {
     bytes: [u8; NAME_BYTES],
-    len: u8,
+    len: u32,
 }
 
 impl Model for Name {
@@ -65,7 +65,7 @@ impl Name {
         cells[..bytes.len()].copy_from_slice(bytes);
         Name {
             bytes: cells,
-            len: bytes.len() as u8,
+            len: bytes.len() as u32,
         }
     }
 
@@ -75,14 +75,14 @@ impl Name {
         ensures spelled { IsTrue (is_name self.now) }
         ensures few { result ≤ NAME_BYTES }
     {
-        self.len
+        self.len as u8
     }
 
     /// Its bytes.
     pub fn bytes(&self) -> &[u8]
         ensures { result.now ≡ self.now }
     {
-        &self.bytes[..usize::from(self.len)]
+        &self.bytes[..self.len as usize]
     }
 }
 

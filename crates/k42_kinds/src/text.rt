@@ -19,7 +19,7 @@ use std::marker::Model;
 #[derive(Clone, Copy, Debug)]
 pub struct Text {
     bytes: [u8; TEXT_BYTES],
-    len: u8,
+    len: u32,
 }
 
 impl Model for Text {
@@ -64,7 +64,7 @@ impl Text {
         cells[..bytes.len()].copy_from_slice(bytes);
         Text {
             bytes: cells,
-            len: bytes.len() as u8,
+            len: bytes.len() as u32,
         }
     }
 
@@ -74,14 +74,14 @@ impl Text {
         ensures spelled { IsTrue (is_text self.now) }
         ensures few { result ≤ TEXT_BYTES }
     {
-        self.len
+        self.len as u8
     }
 
     /// Its bytes.
     pub fn bytes(&self) -> &[u8]
         ensures { result.now ≡ self.now }
     {
-        &self.bytes[..usize::from(self.len)]
+        &self.bytes[..self.len as usize]
     }
 }
 
