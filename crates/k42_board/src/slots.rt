@@ -1,5 +1,7 @@
 //! The steps on locks and slots, for a seat alone.
-ghost use Rattle.std.specs.Prelude.{◌≡◌, ℕ, None, IfSome, IsSomeAnd};
+ghost use Rattle.std.specs.Prelude.{◌≡◌, ◌∷◌, ℕ, None, IfSome, IsSomeAnd};
+ghost use Rattle.atomic_table.specs.Table.{rest};
+ghost use Rattle.k42_board.specs.Cells.{Slot};
 ghost use Rattle.k42_board.specs.Protocol as protocol;
 ghost use Rattle.k42_board.specs.Stepping.{IsOfTable, MayTake, HasTaken, HasMovedTwice, IsWholeIn, layouts_by};
 ghost use Rattle.k42_board.specs.Taking.{HoldsHome, MayPut, AreRowsNoted};
@@ -12,6 +14,7 @@ use crate::cell::Cell;
 use crate::encoding::{lock_word, slot_of};
 use crate::slot_plays::{GiveBack, Known, Lift, Lock, LockQuietly, PutBack, Reach, Unlock};
 use k42_kinds::Layout;
+use std::mem::swap;
 
 pub fn lock_cell<L: Layout>(
     board: &Board<L>,
@@ -55,6 +58,24 @@ pub fn unlock_cell<L: Layout>(board: &Board<L>, seat: &mut BoardSeat<L>, cell: u
     board.shared.store::<Unlock>(seat, lock_word(cell), 0);
 }
 
+/// Changes what is in the slot that the seat took last for what was lent: a cell is long, and is moved once.
+#[inline(always)]
+fn swap_slot<L: Layout>(
+    board: &Board<L>,
+    seat: &mut BoardSeat<L>,
+    slot: usize,
+    held: &mut Option<Cell<L>>,
+)
+    requires ours { seat.old.table_id ≡ board.now.shared.table_id }
+    requires out { (content : Slot L.Part L.Op L.Reply) × (seat.old.me.1 ≡ (slot, content) ∷ rest seat.old.me.1) }
+    ensures table { seat.new.table_id ≡ seat.old.table_id }
+    ensures seat { seat.new.id ≡ seat.old.id }
+    ensures found { seat.old.me.1 ≡ (slot, held.new) ∷ rest seat.old.me.1 }
+    ensures left { seat.new.me ≡ (seat.old.me.0, (slot, held.old) ∷ rest seat.old.me.1) }
+{
+    swap(seat.slot_mut(&board.shared, slot), held);
+}
+
 /// Moves the cell out of its slot to where room for it was lent: a cell is long, and would be copied at each return.
 #[inline(always)]
 pub fn take_cell<L: Layout, K: Known<L::Part, L::Op, L::Reply>>(
@@ -67,6 +88,7 @@ pub fn take_cell<L: Layout, K: Known<L::Part, L::Op, L::Reply>>(
     requires idle { (pass_in seat.old.me.0).out ≡ None }
     requires ours { IsOfTable L.Layout board.now.shared.table_id board.now.shared.key seat.old }
     requires may { HoldsHome cell (pass_in seat.old.me.0) }
+    requires free { held.old ≡ None }
     requires known { (v : PassView L.Part L.Op L.Reply) → AreRowsNoted (layouts_by L.Layout board.now.shared.key) board.now.shared.key.layouts.items v → K.known v }
     ensures number { IsSomeAnd held.new (λ content. content.number ≡ cell) }
     ensures known { K.known (pass_in seat.new.me.0) }
@@ -76,7 +98,7 @@ pub fn take_cell<L: Layout, K: Known<L::Part, L::Op, L::Reply>>(
     let word = lock_word(cell);
     let slot = slot_of(cell);
     board.shared.load::<Lift>(seat, word);
-    *held = board.shared.exchange(seat, slot, None);
+    swap_slot(board, seat, slot, held);
     board.shared.load::<GiveBack<K>>(seat, word);
 }
 
@@ -96,10 +118,7 @@ pub fn put_cell<L: Layout>(
     ensures put { IfSome held.old (λ content. HasMovedTwice L.Layout board.now.shared.key (protocol.reach cell) (protocol.put cell content) seat.old seat.new) }
 {
     let word = lock_word(cell);
-    let slot = slot_of(cell);
     board.shared.load::<Reach>(seat, word);
-    let None = board.shared.exchange(seat, slot, held.take()) else {
-        unreachable!()
-    };
+    swap_slot(board, seat, slot_of(cell), held);
     board.shared.load::<PutBack>(seat, word);
 }

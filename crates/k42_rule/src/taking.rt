@@ -44,6 +44,7 @@ pub fn unlock<L: Layout>(sys: &Sys<L>, pass: &mut Pass<L>, cell: u32)
 #[inline(always)]
 pub fn take_into<L: Layout>(sys: &Sys<L>, pass: &mut Pass<L>, cell: u32, held: &mut Option<Cell<L>>)
     requires ours { IsOf sys.now pass.old }
+    requires free { held.old ≡ None }
     requires may { HoldsHome cell pass.old.view }
     ensures number { IsSomeAnd held.new (λ content. content.number ≡ cell) }
     ensures moved { IfSome held.new (λ content. HasMoved L.Layout sys.now (protocol.lift cell content) (protocol.give_back cell) pass.old pass.new) }
