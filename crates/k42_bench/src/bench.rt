@@ -4,7 +4,7 @@ ghost use Rattle.k42_board.specs.declared.keep.Keep.TheVariants.{All};
 ghost use Rattle.k42_crews.specs.Ready.{IsFree, IsIn, AreFree, StaysFree};
 ghost use Rattle.k42_bench.specs.Staying.{StaysIn};
 
-use crate::load::{Load, op_of, size_due, size_of};
+use crate::load::{Load, Round, size_due, size_of};
 use k42_crews::{Work, call_once, close, end, start, work_all};
 use k42_kinds::{Answer, KindName, LayoutName, Reply};
 use k42_limits::LAST_INCARNATION;
@@ -23,13 +23,17 @@ pub struct Done {
     pub whole: bool,
 }
 
-/// Whether the pass has made its calls, the last of them after all swaps, where its entries tell so.
-fn is_done(pass: &Pass, load: &Load, calls: u32) -> bool {
-    let seen = match load.keep {
+/// How many swaps the last call of the pass has seen, or all of them where its entries do not tell.
+fn swaps_seen(pass: &Pass, load: &Load) -> u32 {
+    match load.keep {
         Keep::All => pass.log().last_incarnation(),
         Keep::Sections | Keep::Nothing => load.swaps,
-    };
-    calls >= load.calls && seen >= load.swaps.min(LAST_INCARNATION)
+    }
+}
+
+/// Whether the pass has made its calls, the last of them after all swaps, where its entries tell so.
+fn is_done(pass: &Pass, load: &Load, calls: u32) -> bool {
+    calls >= load.calls && swaps_seen(pass, load) >= load.swaps.min(LAST_INCARNATION)
 }
 
 /// Calls so often, and until all swaps are done where entries are kept. A pass that is worn calls no more.
@@ -43,15 +47,16 @@ fn call_often<R: Wait>(
     requires { IsFree system.now pass.old }
     ensures { StaysFree system.now pass.old pass.new }
 {
+    let round = Round::of(alloc, load, pass.caller())?;
     for number in 0..u32::MAX {
-        let Some(op) = op_of(load, pass.caller(), number) else {
+        let Some(op) = round.op(number) else {
             return Ok(());
         };
-        if !system.takes(0, &op) || is_done(pass, load, number) {
+        if !system.takes(0, op) || is_done(pass, load, number) {
             return Ok(());
         }
         system.enter(pass);
-        let reply = system.call(rt, alloc, pass, 0, op);
+        let reply = system.call(rt, alloc, pass, 0, *op);
         system.leave(pass);
         match reply {
             Ok(_) => (),
@@ -69,19 +74,20 @@ fn call_in_activity<R: Wait>(
     system: &System,
     pass: &mut Pass,
     load: &Load,
+    round: &Round,
     first: u32,
 ) -> Result<bool, NoCall>
     requires { IsIn system.now pass.old }
     ensures { StaysIn system.now pass.old pass.new }
 {
     for number in first..first.saturating_add(load.block) {
-        let Some(op) = op_of(load, pass.caller(), number) else {
+        let Some(op) = round.op(number) else {
             return Ok(false);
         };
-        if is_done(pass, load, number) || !system.takes(0, &op) {
+        if is_done(pass, load, number) || !system.takes(0, op) {
             return Ok(false);
         }
-        system.call(rt, alloc, pass, 0, op)?;
+        system.call(rt, alloc, pass, 0, *op)?;
     }
     Ok(true)
 }
@@ -93,13 +99,14 @@ fn call_block<R: Wait>(
     system: &System,
     pass: &mut Pass,
     load: &Load,
+    round: &Round,
     first: u32,
 ) -> Result<bool, NoCall>
     requires { IsFree system.now pass.old }
     ensures { StaysFree system.now pass.old pass.new }
 {
     system.enter(pass);
-    let made = call_in_activity(rt, alloc, system, pass, load, first);
+    let made = call_in_activity(rt, alloc, system, pass, load, round, first);
     system.leave(pass);
     made
 }
@@ -115,9 +122,10 @@ fn call_in_blocks<R: Wait>(
     requires { IsFree system.now pass.old }
     ensures { StaysFree system.now pass.old pass.new }
 {
+    let round = Round::of(alloc, load, pass.caller())?;
     for block in 0..u32::MAX {
         let first = block.saturating_mul(load.block);
-        match call_block(rt, alloc, system, pass, load, first) {
+        match call_block(rt, alloc, system, pass, load, &round, first) {
             Ok(true) => (),
             Ok(false) | Err(NoCall::Worn) => return Ok(()),
             Err(NoCall::Memory) => return Err(Memory),

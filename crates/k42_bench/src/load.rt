@@ -1,6 +1,11 @@
 //! What is asked, and how often.
 use k42_kinds::{KindName, LayoutName, Name, Op, Text};
+use k42_memory::Memory;
 use k42_runtime::Keep;
+use std::alloc::Global;
+
+/// After so many calls a caller asks the same again.
+const ROUND: u32 = 100;
 
 /// Which operations a thread asks.
 #[derive(Clone, Copy, Debug, PartialEq, Eq)]
@@ -71,10 +76,31 @@ fn mix(kind: KindName, caller: u32, number: u32) -> Option<Op> {
 }
 
 /// What the caller asks in its call of this number.
-pub fn op_of(load: &Load, caller: u32, number: u32) -> Option<Op> {
+fn op_of(load: &Load, caller: u32, number: u32) -> Option<Op> {
     match load.ops {
         Ops::Near => near(load, caller, number),
         Ops::Mix => mix(load.kind, caller, number),
+    }
+}
+
+/// What a caller asks over and over, made before it calls: what is measured is the call.
+#[derive(Debug, Drop)]
+pub struct Round(Vec<Op>);
+
+impl Round {
+    pub fn of(alloc: Global, load: &Load, caller: u32) -> Result<Round, Memory> {
+        let mut ops = Vec::new(alloc);
+        for number in 0..ROUND {
+            if let Some(op) = op_of(load, caller, number) {
+                ops.push(op)?;
+            }
+        }
+        Ok(Round(ops))
+    }
+
+    /// What is asked in the call of this number.
+    pub fn op(&self, number: u32) -> Option<&Op> {
+        self.0.get((number % ROUND) as usize)
     }
 }
 
