@@ -58,7 +58,7 @@ abbrev pub replaced : {P O R : Type 0} → ℕ → code.Content P O R → PassVi
 replaced n content v = logs (put_at (lock_word n) (is_some content.part)) (put_view n v)
 
 -- A pass may keep another record where that sweeps no more.
-relogs : {S L P O R : Type 0} (F : Layouts S L P O R) (declared : List L) (table : State (Slot P O R) (View P O R)) (words : List ℕ) (homes : List (maybe.Option (Slot P O R)))
+pub relogs : {S L P O R : Type 0} (F : Layouts S L P O R) (declared : List L) (table : State (Slot P O R) (View P O R)) (words : List ℕ) (homes : List (maybe.Option (Slot P O R)))
     (id : ℕ) (w : PassView P O R) {v : PassView P O R} → get_elem? table.views id ≡ some (Crew (v ∷ [])) → (r : Rule F declared (with_pass table words homes id w)) (log : List Taken)
     → ((o : ℕ) → has_swept log o ≡ true → has_swept w.log o ≡ true)
     → (after : Rule F declared (with_pass table words homes id (relogged w log))) × (after.state ≡ r.state)

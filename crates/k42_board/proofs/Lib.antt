@@ -63,3 +63,4 @@ pub mod FewRows
 pub mod Naming
 pub mod Starting
 pub mod Skips
+pub mod LiftedSlots

@@ -28,3 +28,4 @@ pub mod Dealing
 pub mod Queueing
 pub mod Stepping
 pub mod Protocol
+pub mod Lifted
