@@ -64,3 +64,4 @@ pub mod Naming
 pub mod Starting
 pub mod Skips
 pub mod LiftedSlots
+pub mod CalledCells

@@ -29,3 +29,4 @@ pub mod Queueing
 pub mod Stepping
 pub mod Protocol
 pub mod Lifted
+pub mod Calling

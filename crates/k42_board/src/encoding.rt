@@ -62,7 +62,7 @@ pub(crate) fn lock_word(cell: usize) -> usize
 }
 
 /// The slot of a cell.
-pub fn slot_of(cell: usize) -> usize
+pub(crate) fn slot_of(cell: usize) -> usize
     requires { cell < 320 }
     ensures { result ≡ slot_of cell }
 {

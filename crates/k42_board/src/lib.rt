@@ -2,6 +2,7 @@
 #![tactic(auto)]
 
 mod board;
+mod calling;
 mod cell;
 mod draw_plays;
 mod draw_words;
@@ -29,14 +30,15 @@ mod view;
 mod words;
 
 pub use board::{Board, BoardSeat, Ruling};
+pub use calling::call_cell;
 pub use cell::{Cell, Content};
 pub use draw_plays::Said;
 pub use draw_words::{alone_word, call_word, first_of, mark_word, one_word};
 pub use encoding::{
     BLOCK, COMPLETE, MOVE, SWAP, blocked_word, cell_number, count_in, direct_word, empty_word,
     entries_in, entry_cell, entry_layout, exits_in, generation_in, generation_with, incarnation_in,
-    is_blocked, is_complete, is_moving, is_over, is_swapped, layout_in, mediator_word, slot_of,
-    tag_in, turn_amount,
+    is_blocked, is_complete, is_moving, is_over, is_swapped, layout_in, mediator_word, tag_in,
+    turn_amount,
 };
 pub use first::{first_slots, first_words};
 pub use grace_words::{
@@ -44,7 +46,6 @@ pub use grace_words::{
 };
 pub use hand_words::{hand_word, number_at};
 pub use keep::Keep;
-pub use lifting::{lift_cell, lifted_word, put_lifted, tell_lifted};
 pub use plays::{Deal, Gather};
 pub use queueing::{
     Another, Lane, Line, Pop, Post, Push, Rows, name_newest, take_back, take_in, tie_root,

@@ -25,7 +25,7 @@ use k42_kinds::Layout;
 
 /// Takes the slot of a cell, with the cell in it.
 #[inline(always)]
-pub fn lift_cell<L: Layout, K: Known<L::Part, L::Op, L::Reply>>(
+pub(crate) fn lift_cell<L: Layout, K: Known<L::Part, L::Op, L::Reply>>(
     board: &Board<L>,
     seat: &mut BoardSeat<L>,
     cell: usize,
@@ -44,7 +44,7 @@ pub fn lift_cell<L: Layout, K: Known<L::Part, L::Op, L::Reply>>(
 
 /// Draws a call at the cell that is out.
 #[inline(always)]
-pub fn lifted_word<L: Layout, K: Said<L::Part, L::Op, L::Reply>>(
+pub(crate) fn lifted_word<L: Layout, K: Said<L::Part, L::Op, L::Reply>>(
     board: &Board<L>,
     seat: &mut BoardSeat<L>,
     cell: usize,
@@ -77,7 +77,12 @@ fn tell_in<P: Drop, O, R>(
 
 /// Tells the cell that is out of the entry that was drawn at it.
 #[inline(always)]
-pub fn tell_lifted<L: Layout>(board: &Board<L>, seat: &mut BoardSeat<L>, cell: usize, last: u64)
+pub(crate) fn tell_lifted<L: Layout>(
+    board: &Board<L>,
+    seat: &mut BoardSeat<L>,
+    cell: usize,
+    last: u64,
+)
     requires holds { HoldsSlot L.Layout board.now.shared.table_id board.now.shared.key cell seat.old }
     requires first { (pass_in seat.old.me.0).untold ≡ cell ∷ after_first (pass_in seat.old.me.0).untold }
     requires due { IsSomeAnd (slot_in seat.old.me.1) (λ content. IsDue (pass_in seat.old.me.0).notes content.number content.closed last) }
@@ -92,7 +97,7 @@ pub fn tell_lifted<L: Layout>(board: &Board<L>, seat: &mut BoardSeat<L>, cell: u
 
 /// Gives the slot back with the cell in it.
 #[inline(always)]
-pub fn put_lifted<L: Layout>(board: &Board<L>, seat: &mut BoardSeat<L>, cell: usize)
+pub(crate) fn put_lifted<L: Layout>(board: &Board<L>, seat: &mut BoardSeat<L>, cell: usize)
     requires holds { HoldsSlot L.Layout board.now.shared.table_id board.now.shared.key cell seat.old }
     requires may { IsSomeAnd (slot_in seat.old.me.1)
         (λ content. MayPut (layouts_by L.Layout board.now.shared.key) board.now.shared.key.layouts.items seat.old.id cell content (pass_in seat.old.me.0)) }
