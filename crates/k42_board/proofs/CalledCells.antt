@@ -70,6 +70,7 @@ module _ {S L P O R : Type 0} (words : LayoutWords S L P O R) (key : Setup L) (n
 
   module _ (old s1 s2 : Seat (Slot P O R) (View P O R)) (full : IsSomeAnd (slot_in s1.me.1) (λ (content : Content P O R). content.number ≡ n))
       (lifts : IfSome (slot_in s1.me.1) (λ content. HasMovedOnce words key (lift n content) old s1))
+      (rows : AreRowsNoted (layouts_by words key) key.layouts.items (pass_in s1.me.0))
       (same : (s2.table_id ≡ s1.table_id) × (s2.id ≡ s1.id)) (seated : IsSeatWith ((slot_of n, slot_in s2.me.1) ∷ []) s2.me (pass_in s1.me.0)) where
     abbrev v : PassView P O R
     v = pass_in old.me.0
@@ -86,6 +87,9 @@ module _ {S L P O R : Type 0} (words : LayoutWords S L P O R) (key : Setup L) (n
     lifted1 : Moves (layouts_by words key) key.layouts.items (lift n l.cell) old.id v w
     lifted1 = subst (Moves (layouts_by words key) key.layouts.items (lift n l.cell) old.id v) view1 l.moved.moved
 
+    noted1 : AreRowsNoted (layouts_by words key) key.layouts.items w
+    noted1 = subst (AreRowsNoted (layouts_by words key) key.layouts.items) view1 rows
+
     -- the cell was put back as it was
     pub left_cell : (s3 : Seat (Slot P O R) (View P O R)) → slot_in s2.me.1 ≡ slot_in s1.me.1 → IfSome (slot_in s2.me.1) (λ content. HasMovedOnce words key (put n content) s2 s3)
         → HasLeftCell (layouts_by words key) key.layouts.items n old.id v (pass_in s3.me.0)
@@ -95,6 +99,7 @@ module _ {S L P O R : Type 0} (words : LayoutWords S L P O R) (key : Setup L) (n
           content = l.cell;
           number = l.number;
           lifted = lifted1;
+          rows = noted1;
           put =
               subst (λ (z : ℕ × PassView P O R). Moves (layouts_by words key) key.layouts.items (put n l.cell) z.0 z.1 (pass_in s3.me.0))
               (λ j. ((same.1 ∙ l.moved.seat) j, (ap (λ (m : Seated P O R). pass_in m.0) seated ∙ view1) j)) moved.moved;
@@ -115,13 +120,13 @@ module _ {S L P O R : Type 0} (words : LayoutWords S L P O R) (key : Setup L) (n
       out2 = seated ∙ (λ j. (Crew (view1 j ∷ []), (slot_of n, (steps2.is ∙ ap Some steps2.so.stepped) j) ∷ []))
 
       -- the call is drawn at it
-      module _ (may : MayCallAt (layouts_by words key) key.layouts.items layout p n op old.id v) (rows : AreRowsNoted (layouts_by words key) key.layouts.items (pass_in s1.me.0))
+      module _ (may : MayCallAt (layouts_by words key) key.layouts.items layout p n op old.id v)
           (s3 : Seat (Slot P O R) (View P O R)) (draws : (found : ℕ) → HasTakenWith words key (draw_call (cells_in (slot_in s2.me.1)) op reply) s2 found s3) where
         abbrev drawn : PassView P O R
         drawn = took steps.Draw (lock_word cell2.number) 0 (draws_at (cell2 ∷ []) (entry_at (cell2 ∷ []) op reply w) w)
 
         id_may : MayCallWith (layouts_by words key) key.layouts.items layout p n op old.id l.cell v
-        id_may = may l.cell l.number (subst (AreRowsNoted (layouts_by words key) key.layouts.items) view1 rows)
+        id_may = may l.cell l.number noted1
 
         out3 : IsOut n s3.me drawn cell2
         out3 = (draws 0).alone ∙ (λ j. (Crew ((draw_call {S = S} {L = L} (cells_in (slot_in (out2 j).1)) op reply (pass_in (out2 j).0)).after 0 ∷ []), (out2 j).1))
@@ -187,6 +192,7 @@ module _ {S L P O R : Type 0} (words : LayoutWords S L P O R) (key : Setup L) (n
                   content = l.cell;
                   number = l.number;
                   lifted = lifted1;
+                  rows = noted1;
                   stepped = is_stepped;
                   stamped = stamped;
                   drawn = λ found.

@@ -69,6 +69,7 @@ module _ {S L P O R : Type 0} (F : Layouts S L P O R) (declared : List L) (layou
     pub content : Content P O R
     pub number : content.number ≡ n
     pub lifted : Moves F declared (lift n content) id v (lifted_by n content v)
+    pub rows : AreRowsNoted F declared (lifted_by n content v)
     pub stepped : HasStepped (F.ways_of layout) F.procs p op reply content (stepped_cell content)
     pub stamped : stamp ≡ stamp_next (lifted_by n content v) (content.number ∷ [])
     pub drawn :
@@ -86,4 +87,5 @@ pub record HasLeftCell
   pub content : Content P O R
   pub number : content.number ≡ n
   pub lifted : Moves F declared (lift n content) id v (lifted_by n content v)
+  pub rows : AreRowsNoted F declared (lifted_by n content v)
   pub put : Moves F declared (put n content) id (lifted_by n content v) w

@@ -56,24 +56,6 @@ pub fn call_word<L: Layout, K: Said<L::Part, L::Op, L::Reply>>(
     board.shared.load::<Draw<K>>(seat, lock_word(number));
 }
 
-/// The same at one cell.
-#[inline(always)]
-pub fn one_word<L: Layout, K: Said<L::Part, L::Op, L::Reply>>(
-    board: &Board<L>,
-    seat: &mut BoardSeat<L>,
-    cell: &Cell<L>,
-    op: &L::Op,
-    reply: &L::Reply,
-)
-    requires agree { AgreeOn (layouts_by L.Layout board.now.shared.key) }
-    requires says { K.becomes ≡ draws_at (cell.now ∷ []) (entry_at (cell.now ∷ []) op.now reply.now (pass_in seat.old.me.0)) }
-    requires may { MayTake L.Layout board.now.shared.table_id board.now.shared.key (protocol.draw_call (cell.now ∷ []) op.now reply.now) seat.old }
-    ensures { (found : ℕ) → HasTaken L.Layout board.now.shared.key (protocol.draw_call (cell.now ∷ []) op.now reply.now) seat.old found seat.new }
-{
-    let number = cell.number as usize;
-    board.shared.load::<Draw<K>>(seat, lock_word(number));
-}
-
 /// The number of the first cell.
 pub fn first_of<P: Drop, O, R>(cells: &[Content<P, O, R>]) -> u32
     ensures first { result ≡ first_cell (numbers_of cells.now) }

@@ -33,7 +33,7 @@ pub use board::{Board, BoardSeat, Ruling};
 pub use calling::call_cell;
 pub use cell::{Cell, Content};
 pub use draw_plays::Said;
-pub use draw_words::{alone_word, call_word, first_of, mark_word, one_word};
+pub use draw_words::{alone_word, call_word, first_of, mark_word};
 pub use encoding::{
     BLOCK, COMPLETE, MOVE, SWAP, blocked_word, cell_number, count_in, direct_word, empty_word,
     entries_in, entry_cell, entry_layout, exits_in, generation_in, generation_with, incarnation_in,

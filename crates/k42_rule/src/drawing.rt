@@ -12,8 +12,8 @@ use crate::pass::Pass;
 use crate::sys::Sys;
 use crate::tabling::{object_in, row_in};
 use k42_board::{
-    Cell, LastBegin, alone_word, call_word, first_of, last_at, mark_word, one_word, stamp_after,
-    tell_all, tell_cell,
+    Cell, LastBegin, alone_word, call_word, first_of, last_at, mark_word, stamp_after, tell_all,
+    tell_cell,
 };
 use k42_kinds::{Act, Answer, Entry, Layout};
 use std::marker::Brand;
@@ -123,46 +123,6 @@ fn draw_at<L: Layout>(
     let number = first_of(cells);
     call_word::<L, Brand>(&sys.board, &mut pass.seat, cells, op, reply);
     tell_all(&sys.board, &mut pass.seat, cells, 0, false, stamp);
-    pass.drawn += 1;
-    pass.clock = stamp;
-    let object = object_in(&pass.place);
-    let row = row_in(&pass.place);
-    store_call(
-        pass.keep,
-        &mut pass.kept,
-        stamp,
-        object,
-        row,
-        number,
-        pass.active,
-        op,
-        reply,
-    );
-    stamp
-}
-
-/// Draws a call that was stepped, at the one cell that its layout names.
-#[inline(always)]
-pub fn draw_one<L: Layout>(
-    sys: &Sys<L>,
-    pass: &mut Pass<L>,
-    cell: &mut Cell<L>,
-    op: &L::Op,
-    reply: &L::Reply,
-) -> u64
-    requires ours { IsOf sys.now pass.old }
-    requires room { HasRoom pass.old }
-    requires may { MayDrawCall (layouts_in L.Layout sys.now) sys.now.layouts (cell.old ∷ []) op.now reply.now pass.old.view }
-    ensures stamp { result ≡ stamp_next pass.old.view (cell.old.number ∷ []) }
-    ensures later { last_stamp pass.old.view.taker.mine < result }
-    ensures drawn { HasDrawn L.Layout sys.now (protocol.draw_call (cell.old ∷ []) op.now reply.now) (cell.old.number ∷ []) pass.old pass.new }
-    ensures told { IsTold pass.new.view.notes cell.old cell.new }
-{
-    let stamp = stamp_after(pass.clock, cell.last_stamp());
-    let number = cell.number();
-    one_word::<L, Brand>(&sys.board, &mut pass.seat, cell, op, reply);
-    let closed = cell.is_closed();
-    tell_cell(&sys.board, &mut pass.seat, cell, closed, stamp);
     pass.drawn += 1;
     pass.clock = stamp;
     let object = object_in(&pass.place);

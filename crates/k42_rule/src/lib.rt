@@ -2,6 +2,7 @@
 #![tactic(auto)]
 
 mod begun;
+mod calling;
 mod drawing;
 mod finish;
 mod freeing;
@@ -21,7 +22,8 @@ mod sys;
 mod tabling;
 mod taking;
 
-pub use drawing::{draw_alone, draw_call, draw_mark, draw_one};
+pub use calling::call_one;
+pub use drawing::{draw_alone, draw_call, draw_mark};
 pub use finish::give_logs;
 pub use freeing::free;
 pub use generating::{enter_step, leave_step};
