@@ -23,6 +23,7 @@ use Rattle.k42_stamp.specs.Laws.{AreLaws}
 use Rattle.k42_stamp.specs.Layouts.{Layouts}
 use Rattle.k42_joined.specs.Numbers.{cell_of, row_cells}
 use Rattle.k42_joined.specs.Rows.{cells_reached}
+use Rattle.k42_board.specs.Calling.{due_in, stepped_at}
 use Rattle.k42_board.specs.Cells.{cells_noted}
 use Rattle.k42_board.specs.Drawing.{IsHeld, AreHeld, IsTold, AreTold, HaveParts, IsStepped, MayDrawCall, numbers_of, part_noted, part_in, part_due, parts_due, entry_call, drawn_at}
 use Rattle.k42_limits.specs.declared.TheConstants.{PASS_ENTRIES}
@@ -49,7 +50,7 @@ use Rattle.k42_mediator.proofs.RowMoved.{length_made, at_of, filled_numbers, fil
 use Rattle.k42_mediator.proofs.RowReady.{told_numbers}
 use Rattle.k42_runtime.specs.Reaching.{HasTakenNext, MayGiveBack}
 use Rattle.k42_runtime.specs.Serving.{object_inside, row_inside, IsCallAt, HasCells, HasMade}
-use Rattle.k42_runtime.specs.Stepping.{due_in, stepped_at, MayStepCells, HasSteppedCells}
+use Rattle.k42_runtime.specs.Stepping.{MayStepCells, HasSteppedCells}
 use Rattle.k42_runtime.proofs.CallTaken.{row_small, named_only, may_give}
 
 pub served_inside : (place : Place) → is_served place ≡ true → IsInside place (object_of place) (row_of place)

@@ -22,3 +22,4 @@ pub mod CallWaited
 pub mod MergedTotals
 pub mod SectionLists
 pub mod SectionLaws
+pub mod CallAtCell

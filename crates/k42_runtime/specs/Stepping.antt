@@ -1,23 +1,16 @@
 -- An operation, made on the parts of the cells that it needs.
-use Rattle.std.specs.Prelude.{◌≡◌, ℕ, ◌<◌, List, [], ◌∷◌, ◌++◌, length, Some, unwrap_or}
+use Rattle.std.specs.Prelude.{◌≡◌, ℕ, ◌<◌, List, [], ◌∷◌, ◌++◌, length}
 use Rattle.k42_kinds.specs.LayoutLaws.{IsReached}
 use Rattle.k42_kinds.specs.Rows.{Ways}
 use Rattle.k42_kinds.specs.declared.entry.Reach.{Reach}
 use Rattle.k42_kinds.specs.declared.entry.Reach.TheVariants.{One, All}
 use Rattle.k42_kinds.specs.declared.operation.Op.{Op}
 use Rattle.k42_kinds.specs.declared.operation.Reply.{Reply}
+use Rattle.k42_board.specs.Calling.{due_in, stepped_at}
 use Rattle.k42_board.specs.declared.cell.Content.{Content}
 use Rattle.k42_mediator.specs.Parts.{parts_from, filled}
 
 module _ {S P : Type 0} (ways : Ways S P Op Reply) (procs : ℕ) where
-  -- the part that is due at a place: a missing one stands for the empty one
-  abbrev pub due_in : ℕ → Content P Op Reply → P
-  due_in p content = unwrap_or content.part (ways.empty procs p)
-
-  -- the cell of a place after the operation
-  abbrev pub stepped_at : ℕ → Op → Content P Op Reply → Content P Op Reply
-  stepped_at p op content = record content { part = Some (ways.part_after (due_in p content) op) }
-
   -- the parts of a row, of which the first were taken out before
   abbrev pub row_behind : List P → List (Content P Op Reply) → List P
   row_behind parts contents = parts ++ parts_from ways procs (length parts) contents
@@ -30,7 +23,7 @@ module _ {S P : Type 0} (ways : Ways S P Op Reply) (procs : ℕ) where
 
   -- the cells have what the operation needs
   abbrev pub MayStepCells : (ℕ → List P → Type 0) → Op → Reach → List (Content P Op Reply) → Type 0
-  MayStepCells Whole op (One p) (content ∷ []) = (p < procs) × IsReached ways Whole (due_in p content) op
+  MayStepCells Whole op (One p) (content ∷ []) = (p < procs) × IsReached ways Whole (due_in ways procs p content) op
   MayStepCells Whole op (One p) contents = ⊥
   MayStepCells Whole op All contents =
       (length contents ≡ procs) × MayStepRow Whole (parts_from ways procs 0 contents) op
@@ -38,7 +31,7 @@ module _ {S P : Type 0} (ways : Ways S P Op Reply) (procs : ℕ) where
   -- the operation was made on them, with this reply
   abbrev pub HasSteppedCells : Op → Reach → Reply → List (Content P Op Reply) → List (Content P Op Reply) → Type 0
   HasSteppedCells op (One p) reply (old ∷ []) news =
-      (reply ≡ ways.part_reply (due_in p old) op) × (news ≡ stepped_at p op old ∷ [])
+      (reply ≡ ways.part_reply (due_in ways procs p old) op) × (news ≡ stepped_at ways procs p op old ∷ [])
   HasSteppedCells op (One p) reply olds news = ⊥
   HasSteppedCells op All reply olds news =
       let parts = parts_from ways procs 0 olds in

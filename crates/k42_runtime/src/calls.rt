@@ -11,6 +11,7 @@ ghost use Rattle.k42_runtime.specs.declared.calls.CallCause.{CallCause};
 ghost use Rattle.k42_runtime.specs.declared.calls.CallStep.TheVariants as CallStep;
 ghost use Rattle.k42_runtime.specs.declared.calls.NoCall.TheVariants as NoCall;
 ghost use Rattle.k42_runtime.specs.declared.calls.CallTry.TheVariants as CallTry;
+ghost use Rattle.k42_runtime.specs.declared.calls.TheConstants.{PAUSES};
 
 use crate::serving::{go_inside, serve};
 use crate::system::{Pass, System, SystemLayout};
@@ -81,6 +82,21 @@ impl Model for Call {
     ghost Value = { CallSeen };
 
     ghost view = { λ c. record { object = c.object; op = c.op; ended = c.ended } };
+}
+
+/// How many pauses, each twice the one before, a call makes that was held up more than once, before it yields its
+/// processor: whoever tries a lock takes its cache line from the caller that has it.
+const PAUSES: u32 = 6;
+
+/// Waits before a call is tried again: the first time briefly.
+fn wait_a_while(backoff: &Backoff, pauses: &mut u32)
+    ensures { pauses.new ≡ PAUSES }
+{
+    for _ in 0..*pauses {
+        backoff.spin();
+    }
+    backoff.snooze();
+    *pauses = PAUSES;
 }
 
 /// One try of a call.
@@ -219,12 +235,13 @@ impl System {
     {
         let mut reply = Reply::Done;
         let backoff = Backoff::new();
+        let mut pauses = 0;
         for _ in rt.forever() {
             match self.try_call(alloc, pass, object, &op, &mut reply) {
                 CallTry::Ended => return Ok(reply),
                 CallTry::Memory => return Err(NoCall::Memory),
                 CallTry::Worn => return Err(NoCall::Worn),
-                CallTry::Again(_) => backoff.snooze(),
+                CallTry::Again(_) => wait_a_while(&backoff, &mut pauses),
             }
         }
         unreachable!()

@@ -8,20 +8,19 @@ ghost use Rattle.k42_limits.specs.declared.TheConstants.{PASS_ENTRIES};
 ghost use Rattle.k42_board.specs.Seen.{HasRoom, IsOf, IsPassOf, IsSamePass};
 ghost use Rattle.k42_board.specs.Tabling.{MayLookUp};
 ghost use Rattle.k42_rule.specs.Settled.{IsSettled};
-ghost use Rattle.k42_mediator.specs.Taken.{MayPutBack};
 ghost use Rattle.k42_runtime.specs.Reaching.{MayGiveBack};
 ghost use Rattle.k42_runtime.specs.Serving.{object_inside, row_inside, IsServing, GoesBy, IsAskedOf, IsSameSeat, Makes, GoesIn, GoesOut, IsCallAt, HasCells, IsServedBy, step_with};
 ghost use Rattle.k42_runtime.specs.Systems.{any_layouts};
 
 use crate::calls::{CallCause, CallTry};
-use crate::cells::{give_back, give_held, take_row};
-use crate::stepping::{step_part, step_row};
+use crate::cells::{give_back, take_row};
+use crate::stepping::step_row;
 use crate::system::{Pass, SystemLayout};
 use k42_board::cell_number;
 use k42_kinds::{Layout, Op, Reach, Reply};
 use k42_mediator::{Knocked, knock};
 use k42_memory::Memory;
-use k42_rule::{Cell, Sys, draw_call, draw_one, layouts_are_lawful, lock, take_into};
+use k42_rule::{Cell, Sys, call_one, draw_call, layouts_are_lawful, lock, unlock};
 use k42_tables::{Entered, Filled, Tried, look_up, try_miss};
 use std::alloc::Global;
 
@@ -87,37 +86,7 @@ pub(crate) fn go_inside(
     }
 }
 
-/// Makes the operation at the one cell that it needs, and draws that.
-#[inline(always)]
-fn make_one(
-    alloc: Global,
-    sys: &Sys<SystemLayout>,
-    pass: &mut Pass,
-    layout: &SystemLayout,
-    place: u32,
-    op: &Op,
-    cell: &mut Cell<SystemLayout>,
-    reply: &mut Reply,
-) -> CallTry
-    requires ours { IsOf sys.now pass.old }
-    requires room { HasRoom pass.old }
-    requires few { length pass.old.view.taker.mine < PASS_ENTRIES }
-    requires has { HasCells (any_layouts sys.now.procs sys.now.callers) sys.now.layouts pass.old.view layout.now (One place) op.now (cell.old ∷ []) }
-    ensures same { IsSameSeat pass.old pass.new }
-    ensures number { cell.new.number ≡ cell.old.number }
-    ensures may { MayPutBack (any_layouts sys.now.procs sys.now.callers) sys.now.layouts pass.new.seat pass.new.view cell.new }
-    ensures makes { Makes (step_with result reply.new) (cell.old.number ∷ []) op.now pass.old.view pass.new.view }
-{
-    layouts_are_lawful(sys);
-    let procs = sys.procs();
-    let Ok(()) = step_part(alloc, layout, procs, place, op, cell, reply) else {
-        return CallTry::Memory;
-    };
-    draw_one(sys, pass, cell, op, reply);
-    CallTry::Ended
-}
-
-/// Takes the one cell that the operation needs, makes it, and gives the cell back.
+/// Locks the one cell that the operation needs, makes it there, and leaves the lock.
 #[inline(always)]
 fn serve_one(
     alloc: Global,
@@ -140,6 +109,7 @@ fn serve_one(
     ensures same { IsSameSeat pass.old pass.new }
     ensures served { IsServedBy (step_with result reply.new) op.now pass.old.view pass.new.view }
 {
+    layouts_are_lawful(sys);
     let _procs = sys.procs();
     let found = lock(sys, pass, number);
     if found != 0 {
@@ -147,14 +117,12 @@ fn serve_one(
             holder: (found - 1) as u32,
         });
     }
-    let mut held = None;
-    take_into(sys, pass, number, &mut held);
-    let Some(cell) = &mut held else {
-        unreachable!()
-    };
-    let tried = make_one(alloc, sys, pass, layout, place, op, cell, reply);
-    give_held(sys, pass, number, &mut held);
-    tried
+    let called = call_one(alloc, sys, pass, layout, number, place, op, reply);
+    unlock(sys, pass, number);
+    match called {
+        Ok(_) => CallTry::Ended,
+        Err(Memory) => CallTry::Memory,
+    }
 }
 
 /// Makes the operation at all cells of the row, and draws that.

@@ -1,9 +1,9 @@
 //! An operation is made on the parts of the cells that it needs.
 ghost use Rattle.std.specs.Prelude.{◌≡◌, ◌<◌, ◌≤◌, ◌+◌, IsTrue, None, if◌then◌else◌, length, take, drop, is_some, vec_capacity, IfOk, OnOk, OnErr};
 ghost use Rattle.k42_limits.specs.declared.TheConstants.{PROCESSORS};
-ghost use Rattle.k42_kinds.specs.LayoutLaws.{IsReached};
 ghost use Rattle.k42_mediator.specs.Parts.{parts_from, filled};
-ghost use Rattle.k42_runtime.specs.Stepping.{due_in, stepped_at, row_behind, MayStepRow};
+ghost use Rattle.k42_board.specs.Calling.{due_in};
+ghost use Rattle.k42_runtime.specs.Stepping.{row_behind, MayStepRow};
 ghost use Rattle.k42_runtime.specs.Systems.{object_in, ways_in, whole_in};
 
 use crate::system::{SystemLayout, SystemPart};
@@ -11,59 +11,6 @@ use k42_kinds::{Layout, Op, Reply};
 use k42_memory::Memory;
 use k42_rule::Cell;
 use std::alloc::Global;
-
-/// Makes the operation on the empty part that is due in a cell without one.
-fn step_empty(
-    alloc: Global,
-    layout: &SystemLayout,
-    procs: u32,
-    place: u32,
-    op: &Op,
-    cell: &mut Cell<SystemLayout>,
-) -> Result<Reply, Memory>
-    requires known { (layout.now.inner.tag ≤ 2) × (place < procs) × (procs ≤ PROCESSORS) }
-    requires takes { IsTrue ((object_in layout.now).takes op.now) }
-    requires empty { cell.old.part ≡ None }
-    requires reached { IsReached (ways_in layout.now) (whole_in layout.now)
-        (due_in (ways_in layout.now) procs place cell.old) op.now }
-    ensures replied { IfOk result (λ reply. reply ≡ (ways_in layout.now).part_reply
-        (due_in (ways_in layout.now) procs place cell.old) op.now) }
-    ensures moved { OnOk result (cell.new ≡ stepped_at (ways_in layout.now) procs place op.now cell.old) }
-    ensures memory { OnErr result (cell.new ≡ cell.old) }
-{
-    let mut part = layout.empty_part(alloc, place, procs)?;
-    let reply = layout.step_one(alloc, &mut part, op)?;
-    cell.set_part(part);
-    Ok(reply)
-}
-
-/// Makes the operation on the part of the one cell that it needs. The reply is where room for it was lent.
-#[inline(always)]
-pub(crate) fn step_part(
-    alloc: Global,
-    layout: &SystemLayout,
-    procs: u32,
-    place: u32,
-    op: &Op,
-    cell: &mut Cell<SystemLayout>,
-    reply: &mut Reply,
-) -> Result<(), Memory>
-    requires known { (layout.now.inner.tag ≤ 2) × (place < procs) × (procs ≤ PROCESSORS) }
-    requires takes { IsTrue ((object_in layout.now).takes op.now) }
-    requires reached { IsReached (ways_in layout.now) (whole_in layout.now)
-        (due_in (ways_in layout.now) procs place cell.old) op.now }
-    ensures replied { OnOk result (reply.new ≡ (ways_in layout.now).part_reply
-        (due_in (ways_in layout.now) procs place cell.old) op.now) }
-    ensures moved { OnOk result (cell.new ≡ stepped_at (ways_in layout.now) procs place op.now cell.old) }
-    ensures memory { OnErr result (cell.new ≡ cell.old) }
-{
-    if let Some(part) = &mut cell.part {
-        *reply = layout.step_one(alloc, part, op)?;
-        return Ok(());
-    }
-    *reply = step_empty(alloc, layout, procs, place, op, cell)?;
-    Ok(())
-}
 
 /// The part of a cell, or the empty one that is due there, and whether it is the cell's own.
 struct Lifted {

@@ -1,16 +1,12 @@
-use Rattle.std.proofs.Common.{◌≡◌, ◌<◌, ◌≤◌, ℕ, [], ◌∷◌, inl, refl, sym, ap, ◌∙◌, subst, arith}
-use Rattle.std.specs.Prelude.{IsSomeAnd}
+use Rattle.std.proofs.Common.{◌<◌, ◌≤◌, ℕ, [], inl, ap, ◌∙◌, subst, arith}
 use Rattle.turn_core.specs.Names.{names}
-use Rattle.k42_board.specs.Log.{ComesTo}
-use Rattle.k42_board.proofs.CellsAllowed.{held_is}
-use Rattle.k42_mediator.specs.Taken.{released}
-use Rattle.k42_mediator.proofs.GivenBack.{comes_taken, locked_home}
-use Rattle.k42_runtime.specs.Reaching.{HasTakenNext}
-use Rattle.k42_runtime.specs.Serving.{object_inside, row_inside, step_with}
+use Rattle.k42_mediator.proofs.SamePass.{draws_between, same_twice}
+use Rattle.k42_runtime.specs.Serving.{object_inside, row_inside}
 use Rattle.k42_runtime.specs.Systems.{any_layouts}
-use Rattle.k42_runtime.proofs.CallMade.{served_inside, has_alone}
-use Rattle.k42_runtime.proofs.CallServed.{served_by}
-use Rattle.k42_runtime.proofs.CallTaken.{cell_small, was_refused, has_taken_next, taken_alone, refused_alone}
+use Rattle.k42_runtime.proofs.Agreed.{watched_agrees}
+use Rattle.k42_runtime.proofs.CallAtCell.{may_call, left_home, called_served, left_served, seat_drawn, seat_left, still_ours}
+use Rattle.k42_runtime.proofs.CallMade.{served_inside}
+use Rattle.k42_runtime.proofs.CallTaken.{cell_small, was_refused, refused_alone}
 use Rattle.k42_runtime.proofs.serving.serve_one.Goals as goal
 
 pub lock-found-requires-after_bounds : goal.lock-found-requires-after_bounds
@@ -34,14 +30,6 @@ lock-found-requires-after_bounds c κs =
       };
     }
 
-pub take_into-requires-clause-may : goal.take_into-requires-clause-may
-take_into-requires-clause-may c κs =
-    let v = c.args.pass.now.view in let place : ℕ = c.args.place in
-    let few : c.procs-procs.result ≤ 8 = c.procs-procs.ensures.few in let is = c.procs-procs.ensures.is in let lt = c.requires.there in
-    let there : place < 8 = omega (arith, few, is, lt) in
-    locked_home _ _ _ _ (cell_small (object_inside v) (row_inside v) place c.args.number c.requires.number there c.requires.call.few)
-    c.if-found-ne0.false c.lock-found.ensures.takes.knows c.lock-found.ensures.takes.finds.unnoted
-
 pub returns-then-found-ne0-clause-served : goal.returns-then-found-ne0-clause-served
 returns-then-found-ne0-clause-served c =
     let F = any_layouts c.args.sys.now.procs c.args.sys.now.callers in let declared = c.args.sys.now.layouts in
@@ -51,30 +39,49 @@ returns-then-found-ne0-clause-served c =
     refused_alone F declared (object_inside v) (row_inside v) place c.args.number _ v c.lock-found.new.pass.view c.requires.number there
     (was_refused F declared c.args.number c.lock-found.result v c.lock-found.new.pass.view [] c.if-found-ne0.true c.lock-found.ensures.takes.knows c.lock-found.ensures.takes.finds)
 
-pub make_one-tried-requires-clause-has : goal.make_one-tried-requires-clause-has
-make_one-tried-requires-clause-has c =
-    let F = any_layouts c.args.sys.now.procs c.args.sys.now.callers in let declared = c.args.sys.now.layouts in
-    let v = c.args.pass.now.view in let cell = c.in-Some.cell in let w = c.take_into.new.pass.view in let n : ℕ = c.args.number in
-    let moved = held_is _ c.take_into.new.held cell c.in-Some.is c.take_into.ensures.moved in
-    let number : cell.number ≡ n = subst (λ held. IsSomeAnd held (λ content. content.number ≡ n)) c.in-Some.is c.take_into.ensures.number in
-    let next : HasTakenNext F declared n v w [] (cell ∷ []) =
-    has_taken_next F declared n v w cell [] (cell ∷ [])
-    (comes_taken n c.lock-found.result cell v _ _ c.if-found-ne0.false c.lock-found.ensures.takes.knows moved.back.knows)
-    number c.requires.held refl (λ k content at. absurd (cc)) c.lock-found.ensures.takes.finds.unnoted c.take_into.ensures.row refl in
-    has_alone F declared c.args.layout.now c.args.op.now c.args.place n v w cell c.requires.number c.requires.call next
+pub call_one-called-requires-clause-call : goal.call_one-called-requires-clause-call
+call_one-called-requires-clause-call c κs =
+    let F = any_layouts c.args.sys.now.procs c.args.sys.now.callers in
+    let few : F.procs ≤ 8 = subst (λ k. k ≤ 8) c.procs-procs.ensures.is c.procs-procs.ensures.few in
+    may_call F c.layouts_are_lawful.ensures c.args.sys.now.layouts watched_agrees c.args.layout.now c.args.place c.args.number c.lock-found.result c.args.op.now c.args.pass.now.view c.lock-found.new.pass.view
+    few c.requires.number c.requires.call c.requires.held c.lock-found.ensures.takes.finds.unnoted c.requires.few c.if-found-ne0.false c.lock-found.ensures.takes.knows c.lock-found.new.pass.seat
 
-pub returns-clause-served : goal.returns-clause-served
-returns-clause-served c =
-    let F = any_layouts c.args.sys.now.procs c.args.sys.now.callers in let declared = c.args.sys.now.layouts in
-    let v = c.args.pass.now.view in let cell = c.in-Some.cell in let w = c.take_into.new.pass.view in let n : ℕ = c.args.number in
-    let moved = held_is _ c.take_into.new.held cell c.in-Some.is c.take_into.ensures.moved in
-    let number : cell.number ≡ n = subst (λ held. IsSomeAnd held (λ content. content.number ≡ n)) c.in-Some.is c.take_into.ensures.number in
-    let next : HasTakenNext F declared n v w [] (cell ∷ []) =
-    has_taken_next F declared n v w cell [] (cell ∷ [])
-    (comes_taken n c.lock-found.result cell v _ _ c.if-found-ne0.false c.lock-found.ensures.takes.knows moved.back.knows)
-    number c.requires.held refl (λ k content at. absurd (cc)) c.lock-found.ensures.takes.finds.unnoted c.take_into.ensures.row refl in
-    served_by F declared v w (cell ∷ []) c.requires.settled.back (n ∷ []) (taken_alone F declared n v w (cell ∷ []) next)
-    c.args.op.now c.make_one-tried.new.pass.view c.give_held.new.pass.view (c.make_one-tried.new.cell ∷ []) (ap (λ m. m ∷ []) c.make_one-tried.ensures.number)
-    (subst (λ (m : ℕ). ComesTo c.make_one-tried.new.pass.view (released (m ∷ []) c.make_one-tried.new.pass.view) c.give_held.new.pass.view)
-    (sym (c.make_one-tried.ensures.number ∙ number)) c.give_held.ensures.comes)
-    (step_with c.make_one-tried.result c.make_one-tried.new.reply) c.requires.settled.told c.make_one-tried.ensures.makes
+pub unlock-requires-after_bounds : goal.unlock-requires-after_bounds
+unlock-requires-after_bounds c κs =
+    let F = any_layouts c.args.sys.now.procs c.args.sys.now.callers in let v = c.args.pass.now.view in let place : ℕ = c.args.place in
+    let few : F.procs ≤ 8 = subst (λ k. k ≤ 8) c.procs-procs.ensures.is c.procs-procs.ensures.few in
+    let lt = c.requires.there in let there : place < 8 = omega (arith, few, lt) in
+    let small = cell_small (object_inside v) (row_inside v) place c.args.number c.requires.number there c.requires.call.few in
+    let one = c.call_one-called in
+    record {
+      ours = still_ours c.args.sys.now.table one.result c.lock-found.new.pass one.new.pass one.ensures.drawer one.ensures.same (c.lock-found.ensures.same.table ∙ c.requires.ours);
+      may =
+          left_home F c.layouts_are_lawful.ensures c.args.sys.now.layouts watched_agrees c.args.layout.now c.args.place c.args.number c.lock-found.result c.args.op.now v c.lock-found.new.pass.view
+          few c.requires.number c.requires.call c.requires.held c.lock-found.ensures.takes.finds.unnoted c.requires.few c.if-found-ne0.false c.lock-found.ensures.takes.knows c.lock-found.new.pass.seat
+          one.new.pass.view small one.new.reply one.result one.ensures.called one.ensures.memory;
+    }
+
+pub returns-in-Ok-clause-same : goal.returns-in-Ok-clause-same
+returns-in-Ok-clause-same c =
+    seat_drawn _ _ (draws_between c.args.pass.now c.lock-found.new.pass c.call_one-called.new.pass c.unlock.new.pass c.lock-found.ensures.same c.in-Ok.ensures.drawer (c.unlock.ensures 0).same)
+
+pub returns-in-Ok-clause-served : goal.returns-in-Ok-clause-served
+returns-in-Ok-clause-served c =
+    let F = any_layouts c.args.sys.now.procs c.args.sys.now.callers in
+    let few : F.procs ≤ 8 = subst (λ k. k ≤ 8) c.procs-procs.ensures.is c.procs-procs.ensures.few in
+    called_served F c.layouts_are_lawful.ensures c.args.sys.now.layouts watched_agrees c.args.layout.now c.args.place c.args.number c.lock-found.result c.args.op.now c.args.pass.now.view c.lock-found.new.pass.view
+    few c.requires.number c.requires.call c.requires.held c.lock-found.ensures.takes.finds.unnoted c.requires.few c.if-found-ne0.false c.lock-found.ensures.takes.knows c.lock-found.new.pass.seat
+    c.call_one-called.new.pass.view c.requires.settled.back c.requires.settled.told c.unlock.new.pass.view (c.unlock.ensures 0).takes.knows c.call_one-called.new.reply c.in-Ok.field-0 c.in-Ok.ensures.later
+    c.in-Ok.ensures.called
+
+pub returns-in-Err-clause-same : goal.returns-in-Err-clause-same
+returns-in-Err-clause-same c =
+    seat_left _ _ (same_twice c.args.pass.now c.call_one-called.new.pass c.unlock.new.pass (same_twice c.args.pass.now c.lock-found.new.pass c.call_one-called.new.pass c.lock-found.ensures.same c.in-Err.ensures.same) (c.unlock.ensures 0).same)
+
+pub returns-in-Err-clause-served : goal.returns-in-Err-clause-served
+returns-in-Err-clause-served c =
+    let F = any_layouts c.args.sys.now.procs c.args.sys.now.callers in
+    let few : F.procs ≤ 8 = subst (λ k. k ≤ 8) c.procs-procs.ensures.is c.procs-procs.ensures.few in
+    left_served F c.layouts_are_lawful.ensures c.args.sys.now.layouts watched_agrees c.args.layout.now c.args.place c.args.number c.lock-found.result c.args.op.now c.args.pass.now.view c.lock-found.new.pass.view
+    few c.requires.number c.requires.call c.requires.held c.lock-found.ensures.takes.finds.unnoted c.requires.few c.if-found-ne0.false c.lock-found.ensures.takes.knows c.lock-found.new.pass.seat
+    c.call_one-called.new.pass.view c.requires.settled.back c.requires.settled.told c.unlock.new.pass.view (c.unlock.ensures 0).takes.knows c.in-Err.ensures.memory
