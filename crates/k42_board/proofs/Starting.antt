@@ -79,28 +79,31 @@ deals_more {P} {O} {R} table queue keep procs objects homes n seat seat' me me' 
 }
 
 -- a new pass is one of its system
-pub is_of_system : {L P O R : Type 0} (sys : SysSeen L) (number home : ℕ) (pass : PassSeen P O R) → home < sys.procs
-    → IsNewPass sys.table sys.queue sys.keep sys.procs (length sys.layouts) number home pass → IsPassOf sys pass
-is_of_system {L} {P} {O} {R} sys number home pass there is = record {
+pub is_of_system : {L P O R : Type 0} (sys : SysSeen L) (number home : ℕ) (pass : PassSeen P O R) → home < sys.procs → length sys.shapes ≡ length sys.layouts
+    → IsNewPass sys.table sys.queue sys.keep sys.procs sys.shapes number home pass → IsPassOf sys pass
+is_of_system {L} {P} {O} {R} sys number home pass there shaped is = record {
   table = is.ours;
   queue = is.posted;
   keep = ap (λ (k : Keeping). k.what) is.keeps;
   proc = rw is.new there;
   waits = ap (λ (v : PassView P O R). length v.turn.waits) is.new ∙ length-replicate sys.procs 0;
-  objects = ap (λ (v : PassView P O R). length v.visitor.noted) is.new ∙ length-replicate (length sys.layouts) None;
-  spans = ap (λ (v : PassView P O R). length v.visitor.freeing) is.new ∙ length-replicate (length sys.layouts) (0, 0);
+  objects = ap (λ (v : PassView P O R). length v.visitor.noted) is.new ∙ length-replicate (length sys.shapes) None ∙ shaped;
+  shapes = ap (λ (v : PassView P O R). v.shapes) is.new;
+  spans = ap (λ (v : PassView P O R). length v.visitor.freeing) is.new ∙ length-replicate (length sys.shapes) (0, 0) ∙ shaped;
 }
 
 pub is_started : {L P O R : Type 0} (layouts : List L) (procs : ℕ) (callers : List ℕ) (sys : SysSeen L) (passes : List (PassSeen P O R))
-    → sys.procs ≡ procs → sys.layouts ≡ layouts → sys.callers ≡ callers → EachPlace (λ c p. p < procs) callers
-    → AreDealt sys.table sys.queue sys.keep procs (length layouts) callers passes → IsStarted layouts procs callers sys passes
-is_started layouts procs callers sys passes procs_are layouts_are callers_are placed dealt = record {
+    → sys.procs ≡ procs → sys.layouts ≡ layouts → length sys.shapes ≡ length layouts → sys.callers ≡ callers → EachPlace (λ c p. p < procs) callers
+    → AreDealt sys.table sys.queue sys.keep procs sys.shapes callers passes → IsStarted layouts procs callers sys passes
+is_started layouts procs callers sys passes procs_are layouts_are shaped callers_are placed dealt = record {
   procs_are = procs_are;
   layouts_are = layouts_are;
+  shaped = shaped;
   callers_are = callers_are;
   dealt = dealt;
   passes_are = λ c pass e.
       let there : c < length callers = let lt = slice_get_within passes c pass e in let many = dealt.many in omega (arith, lt, many) in
       is_of_system sys c (slice_index callers c) pass (rw procs_are (placed c (slice_index callers c) (slice_get-get_or callers c 0 there)))
-      (rw (procs_are, layouts_are) (dealt.each c pass e));
+      (shaped ∙ sym (ap length layouts_are))
+      (rw procs_are (dealt.each c pass e));
 }

@@ -4,6 +4,7 @@ use Rattle.std.proofs.lemmas.Bool.{eqb-true, le-leb}
 use Rattle.std.proofs.lemmas.Option.{slice_get-get_or}
 use mathlib.Core.Option.{some}
 use lib.ListN.{get_elem?}
+use Rattle.k42_shapes.specs.declared.shape.Shape.{Shape}
 use Rattle.atomic_table.specs.Table.{State, Step, Allows}
 use Rattle.k42_limits.specs.declared.TheConstants.{LAST_INCARNATION}
 use Rattle.phase_core.specs.Effects.{at_stage, is_over, turned_over}
@@ -54,18 +55,18 @@ pub record IsMoving (swap : SwapAt) : Type 0 where
   pub named : named_by swap ≡ Some (object_named swap)
   pub unturned : (k : Object) → is_turned swap k ≡ false
   pub bits_are :
-      (b : Bits) (layout incarnation : ℕ) → BitsFollow b layout incarnation swap
-      → ((b.block ≡ true) × (b.moving ≡ true) × (b.complete ≡ false)) × IsLive layout incarnation
+      (b : Bits) (shapes : List Shape) (layout incarnation : ℕ) → BitsFollow b shapes layout incarnation swap
+      → ((b.block ≡ true) × (b.moving ≡ true) × (b.complete ≡ false)) × IsLive shapes layout incarnation
 
 pub moving_is : (swap : SwapAt) → is_moved swap ≡ true → IsMoving swap
-moving_is (Moved o) e = record { moved = refl; named = refl; unturned = λ k. refl; bits_are = λ b layout incarnation is. is }
+moving_is (Moved o) e = record { moved = refl; named = refl; unturned = λ k. refl; bits_are = λ b shapes layout incarnation is. is }
 moving_is swap e = absurd (cc)
 
 -- an object that is alive and has a next incarnation is not over
-not_over : (k : Object) → IsLive k.layout k.incarnation → is_over k ≡ true → ⊥
-not_over k live e = by_test (eqb k.layout 2) refl e where
-  by_test : (a : Bool) → eqb k.layout 2 ≡ a → a || eqb k.incarnation LAST_INCARNATION ≡ true → ⊥
-  by_test true is or = let same = eqb-true k.layout 2 is in let lt = live.0 in absurd (omega (arith, same, lt))
+not_over : (k : Object) → IsLive k.shapes k.layout k.incarnation → is_over k ≡ true → ⊥
+not_over k live e = by_test (eqb k.layout (length k.shapes)) refl e where
+  by_test : (a : Bool) → eqb k.layout (length k.shapes) ≡ a → a || eqb k.incarnation LAST_INCARNATION ≡ true → ⊥
+  by_test true is or = let same = eqb-true k.layout (length k.shapes) is in let lt = live.0 in absurd (omega (arith, same, lt))
   by_test false is or = let same = eqb-true k.incarnation LAST_INCARNATION or in let lt = live.1 in absurd (omega (arith, same, lt))
 
 -- the word with the next incarnation and this layout
@@ -109,7 +110,7 @@ module _ {S L P O R : Type 0} (F : Layouts S L P O R) (laws : AreLaws F) (declar
   pub fits : Fits k
   fits = object_fits s r.sound.phases o o_there
 
-  pub bits_are : ((k.block ≡ true) × (k.moving ≡ true) × (k.complete ≡ false)) × IsLive k.layout k.incarnation
+  pub bits_are : ((k.block ≡ true) × (k.moving ≡ true) × (k.complete ≡ false)) × IsLive k.shapes k.layout k.incarnation
   bits_are = stage.bits_are _ _ _ (bits F laws declared table r id v at stage.named)
 
   pub unturned : v.turned ≡ false
@@ -138,6 +139,7 @@ module _ {S L P O R : Type 0} (F : Layouts S L P O R) (laws : AreLaws F) (declar
 
     staged : IsStaged r.state o k'
     staged = record {
+      shapes = refl;
       freed = refl;
       old = λ i lt ended. (omega (arith, lt), λ done. omega (arith, lt));
       inside = λ d i lt inside. absurd (not_inside d i lt inside);

@@ -1,6 +1,7 @@
 -- Computed words: of objects, entries and generations, and what is read of them.
 use Rattle.std.proofs.Common.{◌≡◌, ◌+◌, ◌-◌, ◌*◌, ◌%◌, ◌^◌, true, false, eqb, [], None, Some, refl}
 use Rattle.std.specs.Int.RustNames.{bit_or}
+use Rattle.k42_shapes.specs.Shapes.{shared_and_spread}
 use Rattle.k42_kinds.specs.declared.operation.Reply.{Reply}
 use Rattle.k42_kinds.specs.declared.entry.Answer.TheVariants.{Busy, Spent, Gone}
 use Rattle.phase_core.specs.Effects.{direct_entry}
@@ -75,40 +76,40 @@ turned_block = refl
 
 -- and what they answer to a Begin: the number of the swap that is under way
 
-blocked_answers : answer_in {R = Reply} 13203668994 ≡ Some (Busy 4)
+blocked_answers : answer_in {R = Reply} 2 13203668994 ≡ Some (Busy 4)
 blocked_answers = refl
 
-moved_answers : answer_in {R = Reply} 13270777856 ≡ Some (Busy 4)
+moved_answers : answer_in {R = Reply} 2 13270777856 ≡ Some (Busy 4)
 moved_answers = refl
 
-turned_answers : answer_in {R = Reply} 17330864128 ≡ Some (Busy 4)
+turned_answers : answer_in {R = Reply} 2 17330864128 ≡ Some (Busy 4)
 turned_answers = refl
 
 -- no swap is under way at this incarnation of the spread layout, and a new one begins
-free_answers : answer_in {R = Reply} 13153337344 ≡ None
+free_answers : answer_in {R = Reply} 2 13153337344 ≡ None
 free_answers = refl
 
 -- a dead object, and a refused swap on it
-dead_answers : answer_in {R = Reply} 536870912 ≡ Some Gone
+dead_answers : answer_in {R = Reply} 2 536870912 ≡ Some Gone
 dead_answers = refl
 
-dead_while_refused : answer_in {R = Reply} 553648128 ≡ Some Gone
+dead_while_refused : answer_in {R = Reply} 2 553648128 ≡ Some Gone
 dead_while_refused = refl
 
 -- at the last incarnation, and one before it
-last_answers : answer_in {R = Reply} 4503595332403200 ≡ Some Spent
+last_answers : answer_in {R = Reply} 2 4503595332403200 ≡ Some Spent
 last_answers = refl
 
-last_while_refused : answer_in {R = Reply} 4503595349180416 ≡ Some Spent
+last_while_refused : answer_in {R = Reply} 2 4503595349180416 ≡ Some Spent
 last_while_refused = refl
 
-before_the_last : answer_in {R = Reply} 4503591054213120 ≡ Some (Busy 1048575)
+before_the_last : answer_in {R = Reply} 2 4503591054213120 ≡ Some (Busy 1048575)
 before_the_last = refl
 
-last_is_over : is_over_in 4503595332403200 ≡ true
+last_is_over : is_over_in 2 4503595332403200 ≡ true
 last_is_over = refl
 
-before_is_not_over : is_over_in 4503591054213120 ≡ false
+before_is_not_over : is_over_in 2 4503591054213120 ≡ false
 before_is_not_over = refl
 
 -- the steps of a swap, on these words
@@ -138,10 +139,10 @@ ended_as_counted = refl
 
 -- entries
 
-direct_is : local_value (direct_entry 1 5 3) ≡ 12884903185
+direct_is : local_value (direct_entry shared_and_spread 1 5 3) ≡ 12884903185
 direct_is = refl
 
-direct_read : entry_in 12884903185 ≡ direct_entry 1 5 3
+direct_read : entry_in 12884903185 ≡ direct_entry shared_and_spread 1 5 3
 direct_read = refl
 
 empty_is : local_value (empty_entry 1) ≡ 4294967296

@@ -1,5 +1,5 @@
 -- A swap that moves its object, turns it over, or gives up before its hand keeps the answers.
-use Rattle.std.proofs.Common.{◌≡◌, ℕ, ◌+◌, ◌<◌, ◌∙◌, Bool, true, false, not, ◌||◌, cond, eqb, ltb, List, Some, refl, sym, ap, subst, inl, ⊎_elim, arith}
+use Rattle.std.proofs.Common.{◌≡◌, ℕ, ◌+◌, ◌<◌, ◌∙◌, Bool, true, false, not, ◌||◌, cond, eqb, ltb, List, Some, refl, sym, ap, subst, inl, ⊎_elim, arith, length}
 use Rattle.std.proofs.lemmas.Bool.{and_parts, not-true, lt-ltb}
 use Rattle.std.proofs.lemmas.List.{get_or-set_same, get_or-set_other}
 use Rattle.std.proofs.lemmas.Option.{same_Some}
@@ -159,7 +159,7 @@ module _ {S L P O R : Type 0} (F : Layouts S L P O R) (laws : AreLaws F) (declar
           record {
             incarnation = omega arith;
             number = omega (arith, number);
-            over = λ is. ⊎_elim (λ (two : k.layout ≡ 2). absurd (omega (arith, two, alive)))
+            over = λ is. ⊎_elim (λ (two : k.layout ≡ length k.shapes). absurd (omega (arith, two, alive)))
                 (λ (last : k.incarnation ≡ LAST_INCARNATION). absurd (omega (arith, last, more))) is;
           }
 

@@ -38,11 +38,11 @@ module _ {L O R : Type 0} (s : Joined L O R) (sound : phases.IsSound s.phases) (
   own_there q named = (answered c there).kept.there q ((answered c there).kept.begun q named)
 
   -- the bits of the object that the swap names
-  own_bits : (q : ℕ) → named_by (swap_of s c) ≡ Some q → BitsFollow (bits_of (object s q)) (object s q).layout (object s q).incarnation (swap_of s c)
+  own_bits : (q : ℕ) → named_by (swap_of s c) ≡ Some q → BitsFollow (bits_of (object s q)) (object s q).shapes (object s q).layout (object s q).incarnation (swap_of s c)
   own_bits q named =
       let is = object_known s.phases sound q (own_there q named) in
       let stage = ((visitor_known s.phases sound c there).swap_alone.owned q named).1 in
-      subst (λ w. BitsFollow (bits_of (object s q)) (object s q).layout (object s q).incarnation w) stage is.bits_follow.bits
+      subst (λ w. BitsFollow (bits_of (object s q)) (object s q).shapes (object s q).layout (object s q).incarnation w) stage is.bits_follow.bits
 
   -- an entry is opened, and the swap goes to a stage of the same object
 

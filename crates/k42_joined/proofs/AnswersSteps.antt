@@ -1,5 +1,5 @@
 -- What the answers of swaps need of a step that draws no entry.
-use Rattle.std.proofs.Common.{◌≡◌, ℕ, ◌<◌, ◌≤◌, ◌⊎◌, ◌∙◌, List, [], ◌∷◌, ◌++◌, refl, sym, subst, inl, inr, ⊎_elim, arith}
+use Rattle.std.proofs.Common.{◌≡◌, ℕ, ◌<◌, ◌≤◌, ◌⊎◌, ◌∙◌, List, [], ◌∷◌, ◌++◌, refl, sym, subst, inl, inr, ⊎_elim, arith, length}
 use Rattle.std.specs.Prelude.{Some}
 use Rattle.k42_limits.specs.declared.TheConstants.{LAST_INCARNATION}
 use Rattle.k42_kinds.specs.declared.entry.Answer.{Answer}
@@ -18,7 +18,7 @@ use Rattle.k42_joined.specs.State.{many_callers, many_objects, object, swap_of, 
 pub record WordGoesOn (k l : Object) : Type 0 where
   pub incarnation : k.incarnation ≤ l.incarnation
   pub number : swap_number k ≤ swap_number l
-  pub over : (k.layout ≡ 2) ⊎ (k.incarnation ≡ LAST_INCARNATION) → IsSameRow k l
+  pub over : (k.layout ≡ length k.shapes) ⊎ (k.incarnation ≡ LAST_INCARNATION) → IsSameRow k l
 
 pub true_on : {R : Type 0} (k l : Object) (i : ℕ) (answer : Answer R) → WordGoesOn k l → IsTrueOf k i answer → IsTrueOf l i answer
 true_on k l i Spent on is =

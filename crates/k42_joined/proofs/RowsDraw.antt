@@ -149,7 +149,7 @@ module _ {S L P O R : Type 0} (F : Layouts S L P O R) (laws : AreLaws F) (declar
   history_now p lt =
       ap (λ row. history_in s o row p) past_now ∙ at_present_life (cell_in s o i p) (i / 2) (locked.lives o p named lt).present.past
 
-  module _ (served : IsCallOrMark (F.object_of x.row.layout) (F.tag_of x.row.layout) (length x.past) e.act e.answer)
+  module _ (served : IsCallOrMark (F.object_of x.row.layout) (F.shapes_of x.row.layout) (F.tag_of x.row.layout) (length x.past) e.act e.answer)
       (replied : (part_steps F x.row.layout).answers (parts_of F x.row) e ≡ (part_steps F x.row.layout).tells e) where
     next : IsNext F o (history_in s o) x e
     next = record {
@@ -258,6 +258,7 @@ module _ {S L P O R : Type 0} (F : Layouts S L P O R) (laws : AreLaws F) (declar
         layouts = has.rows.layouts;
       };
       tagged = has.tagged;
+      shaped = has.shaped;
     }
 
     -- the rows of another object stay
@@ -274,6 +275,7 @@ module _ {S L P O R : Type 0} (F : Layouts S L P O R) (laws : AreLaws F) (declar
         layouts = old.rows.layouts;
       };
       tagged = old.tagged;
+      shaped = old.shaped;
     }
 
     grows : Grows F.procs (history_in s) (history_in t) rows.chains newer e

@@ -203,6 +203,7 @@ module _ {S L P O R : Type 0} (F : Layouts S L P O R) (laws : AreLaws F) (declar
             ∙ sym (ap (λ ls. ls ++ declaration ∷ []) (hands_here F declared s locked c from onto layout e may named));
       };
       tagged = here_tagged;
+      shaped = has.shaped;
     }
 
     rows_else : (q : ℕ) (other : L) (z : Chain L P O R) → q ≢ o → AreRowsOf F other s q z → AreRowsOf F other t q z
@@ -220,6 +221,7 @@ module _ {S L P O R : Type 0} (F : Layouts S L P O R) (laws : AreLaws F) (declar
             layouts = old.rows.layouts ∙ sym (ap (λ ls. ls ++ other ∷ []) same);
           };
           tagged = λ lay is. old.tagged lay (subst (λ ls. slice_get (ls ++ other ∷ []) (length ls - incarnation s q) ≡ Some lay) same is);
+          shaped = old.shaped;
         }
 
     grows : Grows F.procs (history_in s) (history_in t) rows.chains newer e

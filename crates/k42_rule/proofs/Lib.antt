@@ -1,3 +1,4 @@
+pub mod DeclaredShapes
 pub mod RoleTaken
 pub mod PartsDue
 pub mod PutBack

@@ -31,7 +31,7 @@ one_word-requires-clause-may g c κs within = record {
   here = search rules;
   may =
       subst (λ (z : SysSeen _ × PassSeen _ _ _). MayDrawCall
-      (layouts_on g.L.Kind.object g.L.Layout.tag_of g.L.Layout.ways g.L.Layout.whole g.L.Layout.serves g.L.Layout.admitted g.L.Layout.act_of z.0.procs z.0.callers)
+      (layouts_on g.L.Kind.object g.L.Layout.shapes g.L.Layout.tag_of g.L.Layout.ways g.L.Layout.whole g.L.Layout.serves g.L.Layout.admitted g.L.Layout.act_of z.0.procs z.0.callers)
       z.0.layouts (c.args.cell.now ∷ []) c.args.op.now c.args.reply.now z.1.view) (λ j. (sym c.sys.view_is j, sym c.pass.view_is j)) c.requires.may;
 }
 

@@ -41,7 +41,7 @@ invariant_of-pass g c =
       omega arith,
       subst (λ (mine : List (Entry _ _)). HasKept (record { what = pass.keep; given = pass.given; since = pass.since }) pass.number pass.home mine pass.clock pass.kept) (sym (role_keeps v c.take_role_word-found.new.seat.me c.take_role_word-found.result c.take_role_word-found.ensures.alone c.if-found-eq0.true)) was.13,
       was.14,
-      fits_draining pass.swap pass.turned pass.handed pass.last was.15 c.draining-pass-inside.result swap_is,
+      fits_draining (pass_in pass.seat.me.0).shapes pass.swap pass.turned pass.handed pass.last was.15 c.draining-pass-inside.result swap_is,
       was.16,
       was.17,
       subst (λ table. IsTied table pass.post.me.view.client) (sym c.take_role_word-found.ensures.table) was.18,

@@ -47,7 +47,7 @@ tell_all-requires-clause-seated g c κs within = let taken = c.hand_word.ensures
 pub tell_all-requires-clause-untold : goal.tell_all-requires-clause-untold
 tell_all-requires-clause-untold g c κs within =
     let sys = c.args.sys.now in let v = c.args.pass.now.view in let cells = c.args.cells.now in let entry = c.done_entry-entry.result in let tag = g.L.Layout.tag_of c.args.to.now in
-    let F = layouts_on g.L.Kind.object g.L.Layout.tag_of g.L.Layout.ways g.L.Layout.whole g.L.Layout.serves g.L.Layout.admitted g.L.Layout.act_of sys.procs sys.callers in
+    let F = layouts_on g.L.Kind.object g.L.Layout.shapes g.L.Layout.tag_of g.L.Layout.ways g.L.Layout.whole g.L.Layout.serves g.L.Layout.admitted g.L.Layout.act_of sys.procs sys.callers in
     let taken = c.hand_word.ensures 0 in
     let told = told_of cells entry tag c.sys.inside.board.shared.key.procs sys.procs (lock_word (first_cell (numbers_of cells))) (pass_in c.pass.inside.seat.me.0) v c.hand_word.new.seat.me
     (ap (λ (s : SysSeen _). s.procs) c.sys.view_is) (ap (λ (p : PassSeen _ _ _). p.view) c.pass.view_is) (taken.alone, taken.takes.finds) in
@@ -56,7 +56,7 @@ tell_all-requires-clause-untold g c κs within =
 pub tell_all-requires-clause-due : goal.tell_all-requires-clause-due
 tell_all-requires-clause-due g c κs within =
     let sys = c.args.sys.now in let v = c.args.pass.now.view in let cells = c.args.cells.now in let entry = c.done_entry-entry.result in let tag = g.L.Layout.tag_of c.args.to.now in
-    let F = layouts_on g.L.Kind.object g.L.Layout.tag_of g.L.Layout.ways g.L.Layout.whole g.L.Layout.serves g.L.Layout.admitted g.L.Layout.act_of sys.procs sys.callers in
+    let F = layouts_on g.L.Kind.object g.L.Layout.shapes g.L.Layout.tag_of g.L.Layout.ways g.L.Layout.whole g.L.Layout.serves g.L.Layout.admitted g.L.Layout.act_of sys.procs sys.callers in
     let procs : c.sys.inside.board.shared.key.procs ≡ sys.procs = ap (λ (s : SysSeen _). s.procs) c.sys.view_is in
     let taken = c.hand_word.ensures 0 in
     let told = told_of cells entry tag c.sys.inside.board.shared.key.procs sys.procs (lock_word (first_cell (numbers_of cells))) (pass_in c.pass.inside.seat.me.0) v c.hand_word.new.seat.me
@@ -80,7 +80,7 @@ store-requires-clause-may g c =
 pub invariant_of-pass : goal.invariant_of-pass
 invariant_of-pass g c =
     let sys = c.args.sys.now in let v = c.args.pass.now.view in let cells = c.args.cells.now in let entry = c.done_entry-entry.result in let tag = g.L.Layout.tag_of c.args.to.now in
-    let F = layouts_on g.L.Kind.object g.L.Layout.tag_of g.L.Layout.ways g.L.Layout.whole g.L.Layout.serves g.L.Layout.admitted g.L.Layout.act_of sys.procs sys.callers in
+    let F = layouts_on g.L.Kind.object g.L.Layout.shapes g.L.Layout.tag_of g.L.Layout.ways g.L.Layout.whole g.L.Layout.serves g.L.Layout.admitted g.L.Layout.act_of sys.procs sys.callers in
     let same : pass_in c.pass.inside.seat.me.0 ≡ v = ap (λ (p : PassSeen _ _ _). p.view) c.pass.view_is in
     let taken = c.hand_word.ensures 0 in
     let told = told_of cells entry tag c.sys.inside.board.shared.key.procs sys.procs (lock_word (first_cell (numbers_of cells))) (pass_in c.pass.inside.seat.me.0) v c.hand_word.new.seat.me
@@ -122,7 +122,7 @@ invariant_of-pass g c =
       kept_drawn _ c.pass.inside.number c.pass.inside.home c.pass.inside.kept c.store.new.kept c.pass.inside.clock (last_noted v.notes (numbers_of cells)) v entry entry.stamp c.tell_all.new.seat.me _ (subst (λ (x : PassView _ _ _). HasKept (record { what = c.pass.inside.keep; given = c.pass.inside.given; since = c.pass.inside.since }) c.pass.inside.number c.pass.inside.home x.taker.mine c.pass.inside.clock c.pass.inside.kept) same old.13) refl
           (stamp_told F sys.layouts cells c.args.to.now c.args.answer v c.requires.may entry tag (g.L.Layout.act_of c.args.to.now) c.done_entry-entry.ensures.is ∙ ap (λ (o : Own). max o.clock (last_noted v.notes (numbers_of cells)) + 1) (sym own)) (ap (λ (e : Entry _ _). e.caller) c.done_entry-entry.ensures.is ∙ ap (λ (o : Own). o.number) (sym own)) c.requires.may.few c.store.ensures.entries c.store.ensures.owner c.store.ensures.first c.tell_all.ensures.seated mine_now,
       told.1,
-      fits_handed c.pass.inside.swap c.pass.inside.turned c.pass.inside.handed c.pass.inside.last old.15 _
+      fits_handed (pass_in c.pass.inside.seat.me.0).shapes c.pass.inside.swap c.pass.inside.turned c.pass.inside.handed c.pass.inside.last old.15 _
           (ap (λ (o : Own). is_moved o.swap) own ∙ ap is_moved c.requires.may.moved),
       old.16,
       old.17,
@@ -134,14 +134,14 @@ invariant_of-pass g c =
 pub returns-clause-stamp : goal.returns-clause-stamp
 returns-clause-stamp g c =
     let sys = c.args.sys.now in
-    let F = layouts_on g.L.Kind.object g.L.Layout.tag_of g.L.Layout.ways g.L.Layout.whole g.L.Layout.serves g.L.Layout.admitted g.L.Layout.act_of sys.procs sys.callers in
+    let F = layouts_on g.L.Kind.object g.L.Layout.shapes g.L.Layout.tag_of g.L.Layout.ways g.L.Layout.whole g.L.Layout.serves g.L.Layout.admitted g.L.Layout.act_of sys.procs sys.callers in
     stamp_told F sys.layouts c.args.cells.now c.args.to.now c.args.answer c.args.pass.now.view c.requires.may c.done_entry-entry.result (g.L.Layout.tag_of c.args.to.now)
     (g.L.Layout.act_of c.args.to.now) c.done_entry-entry.ensures.is
 
 pub returns-clause-later : goal.returns-clause-later
 returns-clause-later g c =
     let sys = c.args.sys.now in let v = c.args.pass.now.view in let cells = c.args.cells.now in let entry = c.done_entry-entry.result in let tag = g.L.Layout.tag_of c.args.to.now in
-    let F = layouts_on g.L.Kind.object g.L.Layout.tag_of g.L.Layout.ways g.L.Layout.whole g.L.Layout.serves g.L.Layout.admitted g.L.Layout.act_of sys.procs sys.callers in
+    let F = layouts_on g.L.Kind.object g.L.Layout.shapes g.L.Layout.tag_of g.L.Layout.ways g.L.Layout.whole g.L.Layout.serves g.L.Layout.admitted g.L.Layout.act_of sys.procs sys.callers in
     let own = c.pass.invariant.0.own_is ∙ ap own_in (ap (λ (p : PassSeen _ _ _). p.view) c.pass.view_is) in
     subst (λ (p : PassSeen _ _ _). last_stamp p.view.taker.mine < entry.stamp) c.pass.view_is
     (drawn_later _ c.pass.inside.number c.pass.inside.home (pass_in c.pass.inside.seat.me.0).taker.mine c.pass.inside.kept c.pass.inside.clock (last_noted v.notes (numbers_of cells)) entry.stamp c.pass.invariant.13
@@ -155,7 +155,7 @@ returns-clause-told g c =
 pub returns-clause-drawn : goal.returns-clause-drawn
 returns-clause-drawn g c =
     let sys = c.args.sys.now in let v = c.args.pass.now.view in let cells = c.args.cells.now in let taken = c.hand_word.ensures in
-    let F = layouts_on g.L.Kind.object g.L.Layout.tag_of g.L.Layout.ways g.L.Layout.whole g.L.Layout.serves g.L.Layout.admitted g.L.Layout.act_of sys.procs sys.callers in
+    let F = layouts_on g.L.Kind.object g.L.Layout.shapes g.L.Layout.tag_of g.L.Layout.ways g.L.Layout.whole g.L.Layout.serves g.L.Layout.admitted g.L.Layout.act_of sys.procs sys.callers in
     let procs : c.sys.inside.board.shared.key.procs ≡ sys.procs = ap (λ (s : SysSeen _). s.procs) c.sys.view_is in
     let same : pass_in c.pass.inside.seat.me.0 ≡ v = ap (λ (p : PassSeen _ _ _). p.view) c.pass.view_is in
     let after = λ (n : ℕ) (e : Entry _ _) (w : PassView _ _ _). took steps.Draw (lock_word (first_cell (numbers_of cells))) 0 (handed_at (take n cells) (drop n cells) e (g.L.Layout.tag_of c.args.to.now) w) in
