@@ -1,5 +1,5 @@
 -- What is used of the laws of a layout, on the processors of one system.
-use Rattle.std.specs.Prelude.{◌≡◌, ◌==◌, ℕ, ◌<◌, ◌≤◌, false, IsTrue, List, length}
+use Rattle.std.specs.Prelude.{◌≡◌, ℕ, ◌<◌, ◌≤◌, false, IsTrue, List, length}
 use Rattle.k42_limits.specs.declared.TheConstants.{LIVE_LAYOUTS}
 use Rattle.k42_kinds.specs.Histories.{is_call}
 use Rattle.k42_kinds.specs.Rows.{IsWithin}
