@@ -135,7 +135,7 @@ module _ {S L P O R : Type 0} (F : Layouts S L P O R) (laws : AreLaws F) (declar
       (object_written table.words s.objects o k k' (bit_or found 33554432) r.shows.many_words r.shows.few_objects
       (few_entries F laws declared table r id v at) small (slice_get-get_or s.objects o fresh_object lt) refl refl
       (block_set k found (object_fits s r.sound.phases o lt)
-      (stage.clear _ _ _ (bits F laws declared table r id v at stage.named)).0
+      (stage.clear _ _ _ _ (bits F laws declared table r id v at stage.named)).0
       (object_shown F laws declared table r id v at o lt))
       r.shows.objects))
       pass_after

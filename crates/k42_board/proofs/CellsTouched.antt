@@ -1,6 +1,6 @@
 -- Who touches a cell by its view may touch it in every state that the table shows.
 use Rattle.std.proofs.Common.{◌≡◌, ◌⊎◌, ℕ, zero, suc, ◌+◌, ◌<◌, ◌≤◌, Bool, true, false, ◌||◌, ◌&&◌, eqb, leb, ltb, List, [], ◌∷◌, Option, Some, None, length, refl, sym, ap, ◌∙◌, subst, inl, inr, ⊎_elim, arith}
-use Rattle.std.proofs.lemmas.Bool.{and_parts, eqb-true, eq-eqb, leb-true, ltb-true, or_left}
+use Rattle.std.proofs.lemmas.Bool.{and_parts, eqb-true, eq-eqb, leb-true, ltb-true, ne_eqb, or_left}
 use Rattle.std.proofs.lemmas.Bool.Decides.{nat_tests}
 use mathlib.Core.Option.{some}
 use lib.ListN.{get_elem?}
@@ -90,7 +90,7 @@ one_of false b e = inr e
 -- a live object is not over
 not_over : (k : Object) (i : ℕ) → k.layout < length k.shapes → k.incarnation < LAST_INCARNATION → is_over_in k i ≡ true → ⊥
 not_over k i alive next over =
-    let dead : eqb k.layout (length k.shapes) ≡ false = grind (arith, nat_tests, alive) in
+    let dead : eqb k.layout (length k.shapes) ≡ false = ne_eqb k.layout (length k.shapes) (λ same. omega (arith, alive, same)) in
     let last : eqb k.incarnation LAST_INCARNATION ≡ false = grind (arith, nat_tests, next) in
     let none : is_over k ≡ false = rw (dead, last) refl in
     let is = (and_parts (is_over k) (eqb k.incarnation i) over).0 in cc

@@ -124,7 +124,7 @@ module _ {S L P O R : Type 0} (F : Layouts S L P O R) (laws : AreLaws F) (declar
   fits = object_fits s r.sound.phases o o_there
 
   bits_are : (k.block ≡ true) × (k.moving ≡ false) × (k.complete ≡ false)
-  bits_are = stage.bits_are _ _ _ (bits F laws declared table r id v at stage.named)
+  bits_are = stage.bits_are _ _ _ _ (bits F laws declared table r id v at stage.named)
 
   swap_set : k.swap ≡ true
   swap_set = swap_is_set F laws declared table r id v at stage.named

@@ -10,7 +10,7 @@ use lib.ListN.{get_elem?}
 use Rattle.k42_shapes.specs.declared.shape.Shape.{Shape}
 use Rattle.atomic_table.specs.Table.{State}
 use Rattle.k42_kinds.specs.Rows.{Ways, part_at}
-use Rattle.k42_shapes.specs.Shapes.{cells_of}
+use Rattle.k42_shapes.specs.Shapes.{cells_of, IsLiveTag}
 use Rattle.phase_core.specs.Plain.{Visitor}
 use Rattle.phase_core.specs.Stages.{IsInside, named_by, object_named, is_moved}
 use Rattle.phase_core.specs.State.{object_at, visitor_at}
@@ -36,7 +36,7 @@ use Rattle.k42_board.specs.Rule.{KnowsPass, Rule}
 use Rattle.k42_board.specs.Steps.{Always}
 use Rattle.k42_board.specs.Taking.{TouchesFreed, IsRowNoted, AreRowsNoted}
 use Rattle.k42_board.specs.Values.{layout_in, incarnation_in}
-use Rattle.k42_board.specs.Views.{word_begun}
+use Rattle.k42_board.specs.Views.{shapes_at, word_begun}
 use Rattle.k42_board.specs.declared.view.Note.{Note}
 use Rattle.k42_board.specs.declared.view.PassView.{PassView}
 use Rattle.k42_board.specs.declared.view.View.{View}
@@ -117,7 +117,7 @@ module _ {S L P O R : Type 0} (F : Layouts S L P O R) (laws : AreLaws F) (declar
     pub present : IsPresent o
     pub row : incarnation_in (word_begun v.last) ≡ incarnation s o
     pub layout : (object s o).layout ≡ layout_in (word_begun v.last)
-    pub live : layout_in (word_begun v.last) ≤ 1
+    pub live : IsLiveTag (shapes_at v o) (layout_in (word_begun v.last))
     pub freed : (object s o).freed ≡ incarnation s o
 
   pub moved_present : (o : ℕ) → v.visitor.swap ≡ Moved o → v.handed ≡ None → IsMoving o
@@ -135,7 +135,8 @@ module _ {S L P O R : Type 0} (F : Layouts S L P O R) (laws : AreLaws F) (declar
         };
         row = knows.phases.swap.begun o (ap named_by swap) turned;
         layout = sym layout;
-        live = omega (arith, layout, alive);
+        live =
+            subst (λ (shapes : List Shape). IsLiveTag shapes (layout_in (word_begun v.last))) (sym (knows.phases.shapes o)) (omega (arith, layout, alive));
         freed = ready.freed;
       }
 

@@ -4,6 +4,7 @@ use Rattle.std.specs.List.{slice_get, slice_index}
 use Rattle.std.proofs.lemmas.Bool.{cases_eq}
 use Rattle.std.proofs.lemmas.List.{length-replicate}
 use Rattle.std.proofs.lemmas.Option.{same_Some, slice_get_within, slice_get-get_or}
+use Rattle.k42_shapes.specs.declared.shape.Shape.{Shape}
 use Rattle.k42_places.specs.Places.{EachPlace}
 use Rattle.atomic_table.specs.Seated.{TableId}
 use Rattle.k42_places.proofs.Appended.{at_push}
@@ -59,22 +60,22 @@ slots_more {P} slots n c many is first place slot e =
     (λ new. (c, sym new.1, subst (λ m. IsCell m [] false None c) (ap number_in (sym (new.0 ∙ many))) is))
     (at_push slots (Some c) place slot e)
 
-pub dealer_next : {P O R : Type 0} (procs objects n : ℕ) (homes : List ℕ) → n < length homes
-    → dealer (Crew (new_passes {P = P} {O = O} {R = R} procs objects n (drop n homes))) ≡ Crew (new_passes procs objects (n + 1) (drop (n + 1) homes))
-dealer_next {P} {O} {R} procs objects n homes lt =
-    ap (λ (l : List ℕ). dealer (Crew (new_passes {P = P} {O = O} {R = R} procs objects n l))) (drop_at homes n (get_or homes n 0) (slice_get-get_or homes n 0 lt))
+pub dealer_next : {P O R : Type 0} (procs : ℕ) (shapes : List (List Shape)) (n : ℕ) (homes : List ℕ) → n < length homes
+    → dealer (Crew (new_passes {P = P} {O = O} {R = R} procs shapes n (drop n homes))) ≡ Crew (new_passes procs shapes (n + 1) (drop (n + 1) homes))
+dealer_next {P} {O} {R} procs shapes n homes lt =
+    ap (λ (l : List ℕ). dealer (Crew (new_passes {P = P} {O = O} {R = R} procs shapes n l))) (drop_at homes n (get_or homes n 0) (slice_get-get_or homes n 0 lt))
 
-pub deals_more : {P O R : Type 0} (table : TableId) (queue : QueueId) (keep : Keep) (procs objects : ℕ) (homes : List ℕ) (n : ℕ) (seat seat' : TableId) (me me' : Seated P O R) (passes : List (PassSeen P O R)) (pass : PassSeen P O R)
-    → n < length homes → seat' ≡ seat → me' ≡ (dealer me.0, []) → IsNewPass table queue keep procs objects n (slice_index homes n) pass
-    → IsDealing table queue keep procs objects homes n seat me passes → IsDealing table queue keep procs objects homes (n + 1) seat' me' (passes ++ pass ∷ [])
-deals_more {P} {O} {R} table queue keep procs objects homes n seat seat' me me' passes pass lt same moved new h = record {
+pub deals_more : {P O R : Type 0} (table : TableId) (queue : QueueId) (keep : Keep) (procs : ℕ) (shapes : List (List Shape)) (homes : List ℕ) (n : ℕ) (seat seat' : TableId) (me me' : Seated P O R) (passes : List (PassSeen P O R)) (pass : PassSeen P O R)
+    → n < length homes → seat' ≡ seat → me' ≡ (dealer me.0, []) → IsNewPass table queue keep procs shapes n (slice_index homes n) pass
+    → IsDealing table queue keep procs shapes homes n seat me passes → IsDealing table queue keep procs shapes homes (n + 1) seat' me' (passes ++ pass ∷ [])
+deals_more {P} {O} {R} table queue keep procs shapes homes n seat seat' me me' passes pass lt same moved new h = record {
   ours = same ∙ h.ours;
-  crew = moved ∙ ap (λ (m : Seated P O R). (dealer m.0, [])) h.crew ∙ ap (λ (w : View P O R). (w, [])) (dealer_next procs objects n homes lt);
+  crew = moved ∙ ap (λ (m : Seated P O R). (dealer m.0, [])) h.crew ∙ ap (λ (w : View P O R). (w, [])) (dealer_next procs shapes n homes lt);
   many = length-append passes (pass ∷ []) ∙ (let many = h.many in omega (arith, many));
   each = λ c p e.
       ⊎_elim
       (λ old. h.each c p old.1)
-      (λ last. subst (λ (z : ℕ × PassSeen P O R). IsNewPass table queue keep procs objects z.0 (slice_index homes z.0) z.1) (λ i. (sym (last.0 ∙ h.many) i, last.1 i)) new)
+      (λ last. subst (λ (z : ℕ × PassSeen P O R). IsNewPass table queue keep procs shapes z.0 (slice_index homes z.0) z.1) (λ i. (sym (last.0 ∙ h.many) i, last.1 i)) new)
       (at_push passes pass c p e);
 }
 
