@@ -293,7 +293,7 @@ module _ {L O R : Type 0} (s : Joined L O R) (sound : phases.IsSound s.phases) (
     p_swap = swap_here s c there q next (record k { swap = true }) kept
 
     p_word : IsSameWord k (record k { swap = true })
-    p_word = record { incarnation = refl; layout = refl; complete = refl }
+    p_word = record { shapes = refl; incarnation = refl; layout = refl; complete = refl }
 
     p_moves : MovesOn s (with_phases p) c
     p_moves =

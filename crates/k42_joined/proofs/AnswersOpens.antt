@@ -61,7 +61,7 @@ module _ {L O R : Type 0} (s : Joined L O R) (sound : phases.IsSound s.phases) (
     t_swap = swap_here s c there q next k s.kept
 
     t_word : IsSameWord (object s q) k
-    t_word = record { incarnation = refl; layout = refl; complete = refl }
+    t_word = record { shapes = refl; incarnation = refl; layout = refl; complete = refl }
 
     t_words : (o : ℕ) → IsSameWord (object s o) (object t o)
     t_words = words_same s c there q next k s.kept t_word
@@ -158,6 +158,7 @@ module _ {L O R : Type 0} (s : Joined L O R) (sound : phases.IsSound s.phases) (
 
     u_word : WordGoesOn (object s q) k'
     u_word = record {
+      shapes = refl;
       incarnation = omega arith;
       number = number_rises (object s q).complete;
       over = λ is. record { incarnation = refl; layout = refl };

@@ -236,7 +236,7 @@ moved_not_over s sound c there q moved i over =
     not_over : (dead layout incarnation : ℕ) → layout < dead → incarnation < LAST_INCARNATION → eqb layout dead || eqb incarnation LAST_INCARNATION ≡ true → ⊥
     not_over dead layout incarnation a b e = by_test (eqb layout dead) refl e where
       by_test : (t : Bool) → eqb layout dead ≡ t → t || eqb incarnation LAST_INCARNATION ≡ true → ⊥
-      by_test true f g = let h = eqb-true layout 2 f in omega (arith, h, a)
+      by_test true f g = let h = eqb-true layout dead f in omega (arith, h, a)
       by_test false f g = let h = eqb-true incarnation LAST_INCARNATION g in omega (arith, h, b)
 
 pub from_is_moved : (swap : SwapAt) → is_moved swap ≡ true → swap ≡ Moved (object_named swap)

@@ -122,7 +122,11 @@ module _ {S L P O R : Type 0} (F : Layouts S L P O R) (laws : AreLaws F) (declar
           let n = cell_of o i p in
           let named_in : names (from ++ onto) n ≡ true = names_more from onto n (rw may.beside.closes (row_names (many_procs s) o i p (in_procs p lt))) in
           above_cell s.turns turns_sound c (from ++ onto) e next n named_in f (subst (λ (h : List (Entry O R)). In f h) (history_now p (in_procs p lt)) is));
-      live = let low = ready.alive in let same = tagged_now in omega (arith, low, same);
+      live =
+          let low = ready.alive in
+          let same = tagged_now in
+          let many = ap length (has.shaped ∙ sym (laws.alike x.row.layout declaration has.rows.fits.row.kind)) in
+          omega (arith, low, same, many);
       unspent = let low = ready.next in let same = past_now in omega (arith, low, same);
     }
 
