@@ -1,5 +1,5 @@
 -- The state before the first event.
-use Rattle.std.specs.Prelude.{◌≡◌, ℕ, zero, suc, ◌<◌, ◌≤◌, List, [], ◌++◌, length, map, replicate, slice_index_or}
+use Rattle.std.specs.Prelude.{◌≡◌, ℕ, zero, suc, ◌<◌, List, [], ◌++◌, length, map, replicate, slice_index_or}
 use Rattle.k42_places.specs.Places.{EachPlace}
 use Rattle.phase_core.specs.Plain.{ObjectPlan}
 use Rattle.phase_core.specs.State as phases

@@ -1,5 +1,5 @@
 -- An object with three live layouts, the last of them in pairs: where an entry leads, and which numbers it has.
-use Rattle.std.proofs.Common.{◌≡◌, Bool, true, false, [], ◌∷◌, refl}
+use Rattle.std.proofs.Common.{◌≡◌, true, false, [], ◌∷◌, refl}
 use Rattle.k42_shapes.specs.declared.shape.Shape.TheVariants.{One, Each, Groups}
 use Rattle.gen_core.specs.declared.event.GenEvent.TheVariants.{Enter}
 use Rattle.phase_core.specs.declared.caller.SwapAt.TheVariants.{Moved}
