@@ -1,5 +1,5 @@
 -- The steps of a swap, for one pass: where each may be taken, and what the pass knows after it.
-use Rattle.std.specs.Prelude.{◌≡◌, ◌⊎◌, ℕ, ◌+◌, ◌-◌, ◌*◌, ◌<◌, ◌≤◌, ◌^◌, ◌==◌, if◌then◌else◌, Bool, true, false, List, [], ◌∷◌, ◌++◌, Option, Some, None, is_some, not, bit_and, length, slice_index_or}
+use Rattle.std.specs.Prelude.{◌≡◌, ◌⊎◌, ℕ, ◌+◌, ◌-◌, ◌*◌, ◌<◌, ◌≤◌, ◌^◌, ◌==◌, if◌then◌else◌, Bool, true, false, List, [], ◌∷◌, ◌++◌, Option, Some, None, is_some, not, bit_and, length, slice_index_or, unwrap_or}
 use Rattle.k42_shapes.specs.declared.shape.Shape.{Shape}
 use Rattle.k42_shapes.specs.Shapes.{IsKnownTag, IsLiveTag}
 use Rattle.gen_core.specs.Events as graces
@@ -184,3 +184,4 @@ pub record FitsSwap (shapes : List (List Shape)) (swap : SwapAt) (turned : Bool)
   pub moved : is_some handed ≡ true → is_moved swap ≡ true
   pub object : (o : ℕ) → named_by swap ≡ Some o → object_begun last ≡ o
   pub living : is_in_begun_row swap turned ≡ true → IsOfLiving (slice_index_or shapes (object_begun last) []) (word_begun last)
+  pub known : IsKnownTag (slice_index_or shapes (object_begun last) []) (unwrap_or handed 0)

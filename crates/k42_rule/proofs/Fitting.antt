@@ -1,5 +1,6 @@
 -- Each step keeps together what a pass knows of its swap.
 use Rattle.std.proofs.Common.{◌≡◌, ◌≢◌, ℕ, ◌+◌, ◌≤◌, if◌then◌else◌, Bool, true, false, ◌||◌, ◌==◌, Option, Some, None, is_some, nat_lt, sym, refl, ap, ◌∙◌, subst, arith, List, [], length, get_or}
+use Rattle.std.specs.Option.{unwrap_or}
 use Rattle.std.proofs.lemmas.Bool.{eq-eqb}
 use Rattle.std.proofs.lemmas.Option.{same_Some}
 use Rattle.k42_shapes.specs.Shapes.{IsKnownTag}
@@ -24,6 +25,7 @@ fits_new shapes = record {
   moved = λ e. absurd (cc);
   object = λ o e. absurd (cc);
   living = λ e. absurd (cc);
+  known = omega arith;
 }
 
 -- a stage to which a swap goes without a Begin and without a turn-over, and keeps what it has handed on
@@ -120,6 +122,11 @@ idle_is : (swap : SwapAt) → is_idle swap ≡ true → swap ≡ Idle
 idle_is Idle e = refl
 idle_is swap e = absurd (cc)
 
+-- and of one that has not moved its object, and so has handed on no row
+unhanded_zero : (swap : SwapAt) (handed : Option ℕ) → (is_some handed ≡ true → is_moved swap ≡ true) → is_moved swap ≡ false → unwrap_or handed 0 ≡ 0
+unhanded_zero swap None moved not = refl
+unhanded_zero swap (Some tag) moved not = absurd (let is = moved refl in cc)
+
 -- and of one that has just begun
 
 begun_opens : (o : ℕ) (over : Bool) → opens_next (begun_as o over) ≡ false
@@ -152,6 +159,7 @@ module _ (shapes : List (List Shape)) (swap : SwapAt) (turned : Bool) (handed : 
     moved = λ e. goes.moved (fits.moved e);
     object = λ o e. fits.object o (goes.object o e);
     living = λ e. fits.living (goes.living turned fits.opens e);
+    known = fits.known;
   }
 
   -- the next entry is changed
@@ -174,8 +182,20 @@ module _ (shapes : List (List Shape)) (swap : SwapAt) (turned : Bool) (handed : 
   fits_drained grace = fits_at (drained_at grace swap) (goes_drained grace swap)
 
   -- it hands on with a layout
-  pub fits_handed : (tag : ℕ) → is_moved swap ≡ true → FitsSwap shapes swap turned (Some tag) last
-  fits_handed tag e = record { after = fits.after; opens = fits.opens; moved = λ some. e; object = fits.object; living = fits.living }
+  pub fits_handed : (tag : ℕ) → is_moved swap ≡ true → IsKnownTag (get_or shapes (object_named swap) []) tag → FitsSwap shapes swap turned (Some tag) last
+  fits_handed tag e known = record {
+    after = fits.after;
+    opens = fits.opens;
+    moved = λ some. e;
+    object = fits.object;
+    living = fits.living;
+    known = subst (λ o. IsKnownTag (get_or shapes o []) tag) (sym (fits.object (object_named swap) (moved_names swap e))) known;
+  }
+
+  -- the layout with which it has handed on is one of its object
+  pub handed_known : is_some handed ≡ true → IsKnownTag (get_or shapes (object_named swap) []) (unwrap_or handed 0)
+  handed_known some =
+      subst (λ o. IsKnownTag (get_or shapes o []) (unwrap_or handed 0)) (fits.object (object_named swap) (moved_names swap (fits.moved some))) fits.known
 
   -- and turns its object over
   pub fits_turned : is_moved swap ≡ true → FitsSwap shapes (Opening (object_named swap) 0) true None last
@@ -185,6 +205,7 @@ module _ (shapes : List (List Shape)) (swap : SwapAt) (turned : Bool) (handed : 
     moved = λ is. absurd (cc);
     object = λ o is. fits.object o (moved_names swap e ∙ is);
     living = λ is. absurd (cc);
+    known = omega arith;
   }
 
   -- or gives it up, where it has not handed it on
@@ -195,6 +216,7 @@ module _ (shapes : List (List Shape)) (swap : SwapAt) (turned : Bool) (handed : 
     moved = λ is. absurd (let no = ap is_some none in cc);
     object = λ o is. fits.object o (moved_names swap e ∙ is);
     living = λ is. fits.living (moved_before swap turned e).1;
+    known = fits.known;
   }
 
   -- it ends
@@ -205,6 +227,7 @@ module _ (shapes : List (List Shape)) (swap : SwapAt) (turned : Bool) (handed : 
     moved = λ is. absurd (let moved = fits.moved is in cc);
     object = λ o is. absurd (cc);
     living = λ is. absurd (cc);
+    known = fits.known;
   }
 
   -- a pass with no swap finds one under way
@@ -215,6 +238,7 @@ module _ (shapes : List (List Shape)) (swap : SwapAt) (turned : Bool) (handed : 
     moved = fits.moved;
     object = λ o is. absurd (let none = ap named_by (idle_is swap e) in cc);
     living = λ is. absurd (let not = ap (λ (x : SwapAt). is_in_begun_row x turned) (idle_is swap e) in cc);
+    known = let zero = unhanded_zero swap handed fits.moved (ap is_moved (idle_is swap e)) in omega (arith, zero);
   }
 
   -- or begins its own
@@ -227,4 +251,5 @@ module _ (shapes : List (List Shape)) (swap : SwapAt) (turned : Bool) (handed : 
     moved = λ is. absurd (let not = ap is_moved (idle_is swap e) in let moved = fits.moved is in cc);
     object = λ p is. same_Some o p (sym (begun_named o (is_over_in (length (get_or shapes o [])) word)) ∙ is);
     living = λ is. begun_lives (get_or shapes o []) o word turned (is_over_in (length (get_or shapes o [])) word) refl known last_one is;
+    known = let zero = unhanded_zero swap handed fits.moved (ap is_moved (idle_is swap e)) in omega (arith, zero);
   }

@@ -1,3 +1,4 @@
+pub mod ShapesKept
 pub mod DeclaredShapes
 pub mod RoleTaken
 pub mod PartsDue

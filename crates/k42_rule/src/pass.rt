@@ -120,8 +120,7 @@ impl<P: Drop, O: Packed, R: PackedReply> Model for Walker<P, O, R> {
         × (p.clock ≤ LAST_STAMP)
         × FitsSwap (pass_in p.seat.me.0).shapes p.swap p.turned p.handed p.last
         × (p.post.me.hand ≡ None) × (p.post.me.spare ≡ None) × IsTied p.seat.table_id p.post.me.view.client
-        × (unwrap_or p.handed 0 < 16) × (object_begun p.last < 16)
-        × IsKnownTag (shapes_at (pass_in p.seat.me.0) (object_named p.swap)) (unwrap_or p.handed 0) };
+        × (unwrap_or p.handed 0 < 16) × (object_begun p.last < 16) };
 }
 
 impl<P: Drop, O: Packed, R: PackedReply> Walker<P, O, R> {
@@ -299,7 +298,7 @@ impl<P: Drop, O: Packed, R: PackedReply> Walker<P, O, R> {
         ensures is { result ≡ self.now.view.visitor.swap }
         ensures object { object_named self.now.view.visitor.swap < 16 }
         ensures settled { IsSettled self.now.view }
-        ensures linked { FitsSwap self.now.view.visitor.swap self.now.view.turned self.now.view.handed self.now.view.last }
+        ensures linked { FitsSwap self.now.view.shapes self.now.view.visitor.swap self.now.view.turned self.now.view.handed self.now.view.last }
     {
         self.swap
     }

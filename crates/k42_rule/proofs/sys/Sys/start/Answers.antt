@@ -36,9 +36,10 @@ pub new-requires : goal.new-requires
 new-requires g c =
     let procs : ℕ = c.args.procs in let callers : List ℕ = c.args.callers.items in let layouts = c.args.layouts.items in
     let F = layouts_on g.L.Kind.object g.L.Layout.shapes g.L.Layout.tag_of g.L.Layout.ways g.L.Layout.whole g.L.Layout.serves g.L.Layout.admitted g.L.Layout.act_of procs callers in
+    let laws = laws_at g procs callers c.requires.start.turns.limits.some_procs c.requires.start.turns.placed in
     let told : AreFirstWords g.L.Layout.tag_of layouts (length layouts) c.in_ok-words.words.items =
     rw c.as_slice.ensures.value at c.in_ok-words.ensures in
-    (opens F (laws_at g procs callers c.requires.start.turns.limits.some_procs c.requires.start.turns.placed) layouts callers (plan_of F layouts callers c.requires.start (λ d. refl))
+    (opens F laws layouts callers (plan_of F laws layouts callers c.requires.start (λ d. refl))
     c.as_slice-2.result.now c.in_ok-slots.slots.items
     (subst (λ (w : List ℕ). AreFirstWords g.L.Layout.tag_of layouts (length layouts) w) (sym c.as_slice-2.ensures.value) told)
     c.in_ok-slots.ensures.0 c.in_ok-slots.ensures.1).0
@@ -47,9 +48,10 @@ pub returns-clause-opened : goal.returns-clause-opened
 returns-clause-opened g c =
     let procs : ℕ = c.args.procs in let callers : List ℕ = c.args.callers.items in let layouts = c.args.layouts.items in
     let F = layouts_on g.L.Kind.object g.L.Layout.shapes g.L.Layout.tag_of g.L.Layout.ways g.L.Layout.whole g.L.Layout.serves g.L.Layout.admitted g.L.Layout.act_of procs callers in
+    let laws = laws_at g procs callers c.requires.start.turns.limits.some_procs c.requires.start.turns.placed in
     let told : AreFirstWords g.L.Layout.tag_of layouts (length layouts) c.in_ok-words.words.items =
     rw c.as_slice.ensures.value at c.in_ok-words.ensures in
-    is_opened F (laws_at g procs callers c.requires.start.turns.limits.some_procs c.requires.start.turns.placed) layouts callers (plan_of F layouts callers c.requires.start (λ d. refl))
+    is_opened F laws layouts callers (plan_of F laws layouts callers c.requires.start (λ d. refl))
     c.as_slice-2.result.now c.in_ok-slots.slots.items
     (subst (λ (w : List ℕ). AreFirstWords g.L.Layout.tag_of layouts (length layouts) w) (sym c.as_slice-2.ensures.value) told)
     c.in_ok-slots.ensures.0 c.in_ok-slots.ensures.1
