@@ -32,8 +32,8 @@ use Rattle.k42_board.specs.declared.view.View.{View}
 use Rattle.k42_board.specs.declared.view.View.TheVariants.{Crew}
 use Rattle.k42_board.proofs.AtTables.{visited, Steps, AreSameRows, same_on, same_left, same_visit, visits, rows_stay, own_after, rows_told, of_object, object_written, rows_same, few_entries, written_shows}
 use Rattle.k42_board.proofs.Fields.{IsRead, object_fits, swap_set}
-use Rattle.k42_board.proofs.Looking.{object_shown, object_is_read}
-use Rattle.k42_board.proofs.Knocking.{word_object_is, object_finds}
+use Rattle.k42_board.proofs.Looking.{object_shown, object_is_read, word_object_is}
+use Rattle.k42_board.proofs.Knocking.{object_finds}
 use Rattle.std.specs.Int.RustNames.{bit_or}
 use Rattle.k42_joined.specs.Plain.{Kept}
 use Rattle.k42_joined.specs.State.{kept_of, nothing_kept}
@@ -43,7 +43,7 @@ use Rattle.gen_core.specs.Events.{is_free}
 use Rattle.phase_core.specs.declared.caller.SwapAt.{SwapAt}
 use Rattle.phase_core.specs.declared.caller.SwapAt.TheVariants.{Idle}
 use Rattle.k42_board.proofs.Logged.{logged_moves}
-use Rattle.k42_board.proofs.Moves.{Moves}
+use Rattle.k42_board.proofs.Moves.{Moves, Finds}
 use Rattle.k42_board.proofs.OnePass.{with_pass, known}
 use Rattle.k42_board.proofs.Retold.{retold, retold_allowed_with}
 

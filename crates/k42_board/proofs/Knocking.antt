@@ -1,5 +1,5 @@
 -- Knocking at a mediator, and stepping out of it.
-use Rattle.std.proofs.Common.{◌≡◌, ◌≢◌, ℕ, ◌+◌, ◌-◌, ◌%◌, ◌^◌, ◌<◌, ◌≤◌, Bool, true, false, cond, List, [], ◌∷◌, Option, Some, None, length, get_or, set, sym, refl, ap, ◌∙◌, arith, le_refl}
+use Rattle.std.proofs.Common.{◌≡◌, ◌≢◌, ℕ, ◌+◌, ◌-◌, ◌%◌, ◌^◌, ◌<◌, ◌≤◌, Bool, true, false, cond, List, [], ◌∷◌, Option, Some, None, length, get_or, set, sym, refl, ap, ◌∙◌, subst, arith, le_refl}
 use Rattle.std.proofs.lemmas.Option.{slice_get-get_or, same_Some}
 use mathlib.Core.Option.{some}
 use lib.ListN.{get_elem?}
@@ -37,7 +37,7 @@ use Rattle.k42_board.specs.declared.view.View.{View}
 use Rattle.k42_board.specs.declared.view.View.TheVariants.{Crew}
 use Rattle.k42_board.proofs.AtTables.{visited, Steps, IsSameRow, same_visit, visits, goes, of_object, object_written, rows_same, few_entries, written_shows}
 use Rattle.k42_board.proofs.Fields.{IsRead, object_fits, counted_more, counted_less}
-use Rattle.k42_board.proofs.Looking.{place_is, object_shown, object_is_read, object_seen}
+use Rattle.k42_board.proofs.Looking.{place_is, object_shown, object_is_read, object_seen, word_object_is}
 use Rattle.k42_board.proofs.Logged.{logged_moves}
 use Rattle.k42_board.proofs.Moves.{Moves, Finds}
 use Rattle.k42_board.proofs.OnePass.{with_pass, known}
@@ -188,10 +188,6 @@ pub step_out_moves : {S L P O R : Type 0} (F : Layouts S L P O R) → AreLaws F 
     → Moves F declared (AtPhases (StepOut v.number)) (object_word (object_of v.visitor.place)) (λ word. (word + (2 ^ 64 - 1)) % 2 ^ 64)
     (λ found x. took steps.StepOut (object_word (object_of x.visitor.place)) found (ended_view x)) id v
 step_out_moves F laws declared id v may = record { from = (logged_moves steps.StepOut (λ n. n) (λ found q before is. is) (step_out_goes F laws declared id v may)).from }
-
--- the word tells the object
-pub word_object_is : (o word : ℕ) → word ≡ object_word o → word_object word ≡ o
-word_object_is o word is = omega (arith, is)
 
 -- what is found of an object
 pub object_finds : {S L P O R : Type 0} (F : Layouts S L P O R) → AreLaws F → (declared : List L) (id o : ℕ) (v : PassView P O R) → o < length declared

@@ -20,7 +20,7 @@ use Rattle.phase_core.specs.State.{object_at, visitor_at, entry_at, fresh_object
 use Rattle.phase_core.specs.declared.caller.Place.{Place}
 use Rattle.phase_core.specs.declared.caller.Place.TheVariants.{Out, Missed, Direct, AtMediator}
 use Rattle.phase_core.specs.declared.object.LocalEntry.{LocalEntry}
-use Rattle.phase_core.proofs.InSound.{visitor_known, inside_is_present}
+use Rattle.phase_core.proofs.InSound.{object_known, visitor_known, inside_is_present}
 use Rattle.phase_core.proofs.Ranges.{turns_sound, entry_there}
 use Rattle.phase_core.proofs.Reached.{turn_there}
 use Rattle.turn_core.specs.Plain as turns
@@ -315,6 +315,9 @@ look_finds F laws declared id o v may table r at = entry_seen F laws declared ta
 pub object_is : (p o word : ℕ) → o < 16 → word ≡ local_word p o → entry_object word ≡ o
 object_is p o word few is = omega (arith, few, is)
 
+pub word_object_is : (o word : ℕ) → word ≡ object_word o → word_object word ≡ o
+word_object_is o word is = omega (arith, is)
+
 -- as the plays tell them, at the words that the steps name
 
 module _ {S L P O R : Type 0} (F : Layouts S L P O R) (laws : AreLaws F) (declared : List L) (id o : ℕ)
@@ -325,14 +328,10 @@ module _ {S L P O R : Type 0} (F : Layouts S L P O R) (laws : AreLaws F) (declar
   root_same : (found : ℕ) → root_at (object_word o) found (pass_in me.0) ≡ root_at word found (pass_in me.0)
   root_same found = ap (λ i. root_at i found (pass_in me.0)) (sym there)
 
-  -- the word tells the object
-  pub root_object : word_object word ≡ o
-  root_object = omega (arith, there)
-
   pub root_allowed : {callers : ℕ} (slots : ℕ) (step : Step (Slot P O R)) → Allows (Ruled F declared callers) slots id me word (λ n. n) (TellsWith (root_at word) (RootFound (word_object word)) step me)
   root_allowed slots step =
       retold_allowed_with (root_at (object_word o)) (root_at word) root_same (root_moves F laws declared id o (pass_in me.0) may) (RootFound (word_object word))
-      (subst (λ q. Finds F declared (object_word o) (RootFound q) id (pass_in me.0)) (sym root_object) (root_finds F laws declared id o (pass_in me.0) may)) me is word there slots step
+      (subst (λ q. Finds F declared (object_word o) (RootFound q) id (pass_in me.0)) (sym (word_object_is o word there)) (root_finds F laws declared id o (pass_in me.0) may)) me is word there slots step
 
   pub root_told : (step : Step (Slot P O R)) (found : ℕ) (after : Seated P O R) → TellsWith (root_at word) (RootFound (word_object word)) step me found after
       → Tells (root_at (object_word o)) step me found after

@@ -167,9 +167,12 @@ module _ {S L P O R : Type 0} (F : Layouts S L P O R) (laws : AreLaws F) (declar
       tagged : HasItsTag F declaration s o
       tagged = subst (λ d. HasItsTag F d s o) (sym same) at_o.has.tagged
 
+      shaped : (object s o).shapes ≡ F.shapes_of declaration
+      shaped = at_o.has.shaped ∙ ap F.shapes_of (sym same)
+
       long : length chain.past ≡ many_hands s o
       long =
-          many_past F laws declared s r.sound.cells.turns r.sound.cells.locks r.sound.cells.rows r.sound.answers o declaration chain (record { rows = rows; tagged = tagged })
+          many_past F laws declared s r.sound.cells.turns r.sound.cells.locks r.sound.cells.rows r.sound.answers o declaration chain (record { rows = rows; tagged = tagged; shaped = shaped })
 
       none_ahead : many_hands s o - incarnation s o ≡ 0
       none_ahead = let are = hands_are in omega (arith, are)

@@ -15,6 +15,7 @@ use Rattle.k42_board.specs.Values.{generation_value, object_value, local_value, 
 -- an object while its swap blocks, and two callers are counted
 abbrev blocked : Object
 blocked = record {
+  shapes = shared_and_spread;
   count = 2;
   swap = true;
   block = true;
