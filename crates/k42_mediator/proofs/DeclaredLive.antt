@@ -2,8 +2,8 @@
 use Rattle.std.proofs.Common.{◌≡◌, ℕ, List, [], length, get_or, sym, ap, ◌∙◌}
 use Rattle.k42_shapes.specs.declared.shape.Shape.{Shape}
 
-pub told_of : {told shapes : List (List Shape)} {object : ℕ} {own : List Shape} → told ≡ shapes → get_or shapes object [] ≡ own → get_or told object [] ≡ own
-told_of {object} told_is own_is = ap (λ (xs : List (List Shape)). get_or xs object []) told_is ∙ own_is
+pub told_of : {told shapes : List (List Shape)} (object : ℕ) {own : List Shape} → told ≡ shapes → get_or shapes object [] ≡ own → get_or told object [] ≡ own
+told_of object told_is own_is = ap (λ (xs : List (List Shape)). get_or xs object []) told_is ∙ own_is
 
 -- and so is how many of them are live
 pub live_told : {told shapes : List (List Shape)} {place object live : ℕ} {own : List Shape} → told ≡ shapes → place ≡ object → get_or shapes object [] ≡ own → live ≡ length own

@@ -25,7 +25,7 @@ pub with_tag-layout-requires : goal.with_tag-layout-requires
 with_tag-layout-requires g c κs within =
     let v = c.args.pass.now.view in let o : ℕ = c.args.row.object in
     let live = (c.requires.rows.moved o c.requires.moved c.requires.unhanded).1 in let tag = c.begun_layout.ensures.is in
-    let many = ap length (told_of c.requires.ours.shapes c.declared.ensures.shapes) in
+    let many = ap length (told_of c.args.row.object c.requires.ours.shapes c.declared.ensures.shapes) in
     c.declared.ensures.tags c.begun_layout.result (omega (arith, live, tag, many))
 
 pub move_state-requires-clause-known : goal.move_state-requires-clause-known
@@ -37,7 +37,7 @@ move_state-requires-clause-known g c κs within =
     let has : HasRows F declared v o i items layout =
     has_rows F declared v o i items layout c.declared.result c.requires.moved c.requires.row c.requires.unhanded c.procs.result is c.procs.ensures.few c.requires.object
     c.requires.numbers c.requires.held c.requires.taken c.requires.rows c.declared.ensures.is c.with_tag-layout.ensures.same
-    (told_of c.requires.ours.shapes c.declared.ensures.shapes) c.begun_layout.result c.with_tag-layout.ensures.tagged c.begun_layout.ensures.is in
+    (told_of c.args.row.object c.requires.ours.shapes c.declared.ensures.shapes) c.begun_layout.result c.with_tag-layout.ensures.tagged c.begun_layout.ensures.is in
     (live F laws declared agrees v o i items layout has, c.requires.known, subst (λ p. 0 < p) (sym is) laws.some, c.procs.ensures.few)
 
 pub move_state-requires-clause-many : goal.move_state-requires-clause-many
@@ -49,7 +49,7 @@ move_state-requires-clause-many g c κs within =
     let has : HasRows F declared v o i items layout =
     has_rows F declared v o i items layout c.declared.result c.requires.moved c.requires.row c.requires.unhanded c.procs.result is c.procs.ensures.few c.requires.object
     c.requires.numbers c.requires.held c.requires.taken c.requires.rows c.declared.ensures.is c.with_tag-layout.ensures.same
-    (told_of c.requires.ours.shapes c.declared.ensures.shapes) c.begun_layout.result c.with_tag-layout.ensures.tagged c.begun_layout.ensures.is in
+    (told_of c.args.row.object c.requires.ours.shapes c.declared.ensures.shapes) c.begun_layout.result c.with_tag-layout.ensures.tagged c.begun_layout.ensures.is in
     let value = c.as_mut_slice.ensures.value in
     ap length value ∙ long F laws declared agrees v o i items layout has ∙ (λ j. sym is j + sym is j)
 
@@ -62,7 +62,7 @@ move_state-requires-clause-whole g c κs within =
     let has : HasRows F declared v o i items layout =
     has_rows F declared v o i items layout c.declared.result c.requires.moved c.requires.row c.requires.unhanded c.procs.result is c.procs.ensures.few c.requires.object
     c.requires.numbers c.requires.held c.requires.taken c.requires.rows c.declared.ensures.is c.with_tag-layout.ensures.same
-    (told_of c.requires.ours.shapes c.declared.ensures.shapes) c.begun_layout.result c.with_tag-layout.ensures.tagged c.begun_layout.ensures.is in
+    (told_of c.args.row.object c.requires.ours.shapes c.declared.ensures.shapes) c.begun_layout.result c.with_tag-layout.ensures.tagged c.begun_layout.ensures.is in
     let value = c.as_mut_slice.ensures.value in
     subst (λ (z : ℕ × List (Content _ _ _)). F.Whole layout z.0 (parts_from (F.ways_of layout) z.0 0 (take (cells_of (shape_of F layout) z.0) z.1)))
     (λ j. (sym is j, sym value j)) (whole F laws declared agrees v o i items layout has)
@@ -76,7 +76,7 @@ returns-in_err-move_state-clause-numbers g c =
     let has : HasRows F declared v o i items layout =
     has_rows F declared v o i items layout c.declared.result c.requires.moved c.requires.row c.requires.unhanded c.procs.result is c.procs.ensures.few c.requires.object
     c.requires.numbers c.requires.held c.requires.taken c.requires.rows c.declared.ensures.is c.with_tag-layout.ensures.same
-    (told_of c.requires.ours.shapes c.declared.ensures.shapes) c.begun_layout.result c.with_tag-layout.ensures.tagged c.begun_layout.ensures.is in
+    (told_of c.args.row.object c.requires.ours.shapes c.declared.ensures.shapes) c.begun_layout.result c.with_tag-layout.ensures.tagged c.begun_layout.ensures.is in
     let value = c.as_mut_slice.ensures.value in let new = c.move_state.new.cells in
     let cells = take c.args.cells.now.len (new ++ drop (length new) items) in
     let back : cells ≡ new = written_back new items c.args.cells.now.len (c.move_state.ensures.many ∙ ap length value) c.args.cells.now.ok.0 in
@@ -97,7 +97,7 @@ returns-in_err-move_state-clause-ready g c =
     let has : HasRows F declared v o i items layout =
     has_rows F declared v o i items layout c.declared.result c.requires.moved c.requires.row c.requires.unhanded c.procs.result is c.procs.ensures.few c.requires.object
     c.requires.numbers c.requires.held c.requires.taken c.requires.rows c.declared.ensures.is c.with_tag-layout.ensures.same
-    (told_of c.requires.ours.shapes c.declared.ensures.shapes) c.begun_layout.result c.with_tag-layout.ensures.tagged c.begun_layout.ensures.is in
+    (told_of c.args.row.object c.requires.ours.shapes c.declared.ensures.shapes) c.begun_layout.result c.with_tag-layout.ensures.tagged c.begun_layout.ensures.is in
     let value = c.as_mut_slice.ensures.value in let new = c.move_state.new.cells in
     let cells = take c.args.cells.now.len (new ++ drop (length new) items) in
     let back : cells ≡ new = written_back new items c.args.cells.now.len (c.move_state.ensures.many ∙ ap length value) c.args.cells.now.ok.0 in
@@ -118,7 +118,7 @@ draw_done-requires-clause-may g c κs within =
     let has : HasRows F declared v o i items layout =
     has_rows F declared v o i items layout c.declared.result c.requires.moved c.requires.row c.requires.unhanded c.procs.result is c.procs.ensures.few c.requires.object
     c.requires.numbers c.requires.held c.requires.taken c.requires.rows c.declared.ensures.is c.with_tag-layout.ensures.same
-    (told_of c.requires.ours.shapes c.declared.ensures.shapes) c.begun_layout.result c.with_tag-layout.ensures.tagged c.begun_layout.ensures.is in
+    (told_of c.args.row.object c.requires.ours.shapes c.declared.ensures.shapes) c.begun_layout.result c.with_tag-layout.ensures.tagged c.begun_layout.ensures.is in
     let value = c.as_mut_slice.ensures.value in let new = c.move_state.new.cells in
     let cells = take c.args.cells.now.len (new ++ drop (length new) items) in
     let back : cells ≡ new = written_back new items c.args.cells.now.len (c.move_state.ensures.many ∙ ap length value) c.args.cells.now.ok.0 in
@@ -145,7 +145,7 @@ returns-clause-numbers g c =
     let has : HasRows F declared v o i items layout =
     has_rows F declared v o i items layout c.declared.result c.requires.moved c.requires.row c.requires.unhanded c.procs.result is c.procs.ensures.few c.requires.object
     c.requires.numbers c.requires.held c.requires.taken c.requires.rows c.declared.ensures.is c.with_tag-layout.ensures.same
-    (told_of c.requires.ours.shapes c.declared.ensures.shapes) c.begun_layout.result c.with_tag-layout.ensures.tagged c.begun_layout.ensures.is in
+    (told_of c.args.row.object c.requires.ours.shapes c.declared.ensures.shapes) c.begun_layout.result c.with_tag-layout.ensures.tagged c.begun_layout.ensures.is in
     let value = c.as_mut_slice.ensures.value in let new = c.move_state.new.cells in
     let cells = take c.args.cells.now.len (new ++ drop (length new) items) in
     let back : cells ≡ new = written_back new items c.args.cells.now.len (c.move_state.ensures.many ∙ ap length value) c.args.cells.now.ok.0 in
@@ -171,7 +171,7 @@ returns-clause-ready g c =
     let has : HasRows F declared v o i items layout =
     has_rows F declared v o i items layout c.declared.result c.requires.moved c.requires.row c.requires.unhanded c.procs.result is c.procs.ensures.few c.requires.object
     c.requires.numbers c.requires.held c.requires.taken c.requires.rows c.declared.ensures.is c.with_tag-layout.ensures.same
-    (told_of c.requires.ours.shapes c.declared.ensures.shapes) c.begun_layout.result c.with_tag-layout.ensures.tagged c.begun_layout.ensures.is in
+    (told_of c.args.row.object c.requires.ours.shapes c.declared.ensures.shapes) c.begun_layout.result c.with_tag-layout.ensures.tagged c.begun_layout.ensures.is in
     let value = c.as_mut_slice.ensures.value in let new = c.move_state.new.cells in
     let cells = take c.args.cells.now.len (new ++ drop (length new) items) in
     let back : cells ≡ new = written_back new items c.args.cells.now.len (c.move_state.ensures.many ∙ ap length value) c.args.cells.now.ok.0 in
@@ -204,7 +204,7 @@ returns-clause-handed g c =
     let has : HasRows F declared v o i items layout =
     has_rows F declared v o i items layout c.declared.result c.requires.moved c.requires.row c.requires.unhanded c.procs.result is c.procs.ensures.few c.requires.object
     c.requires.numbers c.requires.held c.requires.taken c.requires.rows c.declared.ensures.is c.with_tag-layout.ensures.same
-    (told_of c.requires.ours.shapes c.declared.ensures.shapes) c.begun_layout.result c.with_tag-layout.ensures.tagged c.begun_layout.ensures.is in
+    (told_of c.args.row.object c.requires.ours.shapes c.declared.ensures.shapes) c.begun_layout.result c.with_tag-layout.ensures.tagged c.begun_layout.ensures.is in
     let value = c.as_mut_slice.ensures.value in let new = c.move_state.new.cells in
     let cells = take c.args.cells.now.len (new ++ drop (length new) items) in
     let back : cells ≡ new = written_back new items c.args.cells.now.len (c.move_state.ensures.many ∙ ap length value) c.args.cells.now.ok.0 in
