@@ -14,7 +14,7 @@ use Rattle.k42_board.specs.declared.view.StepName.TheVariants as steps
 use Rattle.k42_mediator.specs.Taken.{MayPutBack}
 use Rattle.k42_mediator.proofs.AfterMark.{later_stamp}
 use Rattle.k42_runtime.specs.Stepping.{due_in, HasSteppedCells}
-use Rattle.k42_runtime.specs.Systems.{any_layouts}
+use Rattle.k42_runtime.specs.Systems.{any_layouts, cells_in}
 use Rattle.k42_runtime.proofs.Agreed.{watched_agrees}
 use Rattle.k42_runtime.proofs.CallMade.{may_step, may_draw, may_give_taken, may_give_drawn, has_made, told_alone}
 use Rattle.k42_runtime.proofs.serving.make_one.Goals as goal
@@ -48,8 +48,8 @@ draw_one-requires-clause-may c κs =
     let layout = c.args.layout.now in let v = c.args.pass.now.view in let op = c.args.op.now in let p : ℕ = c.args.place in let cell = c.args.cell.now in
     let has = c.requires.has in let is = c.procs-procs.ensures.is in let few : procs ≤ 8 = subst (λ k. k ≤ 8) is c.procs-procs.ensures.few in
     let reply = c.step_part.new.reply in let new = c.step_part.new.cell in
-    let made : HasSteppedCells (F.ways_of layout) procs op (One p) reply (cell ∷ []) (new ∷ []) =
-    subst (λ (k : ℕ). HasSteppedCells (F.ways_of layout) k op (One p) reply (cell ∷ []) (new ∷ [])) is
+    let made : HasSteppedCells (F.ways_of layout) procs (cells_in layout procs) op (One p) reply (cell ∷ []) (new ∷ []) =
+    subst (λ (k : ℕ). HasSteppedCells (F.ways_of layout) k (cells_in layout k) op (One p) reply (cell ∷ []) (new ∷ [])) is
     (c.in-Ok.ensures.replied, ap (λ (x : Content _ Op Reply). x ∷ []) c.in-Ok.ensures.moved) in
     may_draw F laws declared watched_agrees v layout (One p) op (cell ∷ []) has few reply (new ∷ []) made c.requires.few
 
@@ -62,8 +62,8 @@ returns-clause-may c =
     let layout = c.args.layout.now in let v = c.args.pass.now.view in let op = c.args.op.now in let p : ℕ = c.args.place in let cell = c.args.cell.now in
     let has = c.requires.has in let is = c.procs-procs.ensures.is in let few : procs ≤ 8 = subst (λ k. k ≤ 8) is c.procs-procs.ensures.few in
     let reply = c.step_part.new.reply in let new = c.step_part.new.cell in
-    let made : HasSteppedCells (F.ways_of layout) procs op (One p) reply (cell ∷ []) (new ∷ []) =
-    subst (λ (k : ℕ). HasSteppedCells (F.ways_of layout) k op (One p) reply (cell ∷ []) (new ∷ [])) is
+    let made : HasSteppedCells (F.ways_of layout) procs (cells_in layout procs) op (One p) reply (cell ∷ []) (new ∷ []) =
+    subst (λ (k : ℕ). HasSteppedCells (F.ways_of layout) k (cells_in layout k) op (One p) reply (cell ∷ []) (new ∷ [])) is
     (c.in-Ok.ensures.replied, ap (λ (x : Content _ Op Reply). x ∷ []) c.in-Ok.ensures.moved) in
     let w = took steps.Draw (lock_word new.number) 0 (drawn_at (new ∷ []) (entry_call v (new.number ∷ []) (Call op) (Replied reply)) v) in
     let after = c.draw_one.new.cell in let knows : c.draw_one.new.pass.view ≡ w = c.draw_one.ensures.drawn.knows in
@@ -77,8 +77,8 @@ returns-clause-makes c =
     let layout = c.args.layout.now in let v = c.args.pass.now.view in let op = c.args.op.now in let p : ℕ = c.args.place in let cell = c.args.cell.now in
     let has = c.requires.has in let is = c.procs-procs.ensures.is in let few : procs ≤ 8 = subst (λ k. k ≤ 8) is c.procs-procs.ensures.few in
     let reply = c.step_part.new.reply in let new = c.step_part.new.cell in
-    let made : HasSteppedCells (F.ways_of layout) procs op (One p) reply (cell ∷ []) (new ∷ []) =
-    subst (λ (k : ℕ). HasSteppedCells (F.ways_of layout) k op (One p) reply (cell ∷ []) (new ∷ [])) is
+    let made : HasSteppedCells (F.ways_of layout) procs (cells_in layout procs) op (One p) reply (cell ∷ []) (new ∷ []) =
+    subst (λ (k : ℕ). HasSteppedCells (F.ways_of layout) k (cells_in layout k) op (One p) reply (cell ∷ []) (new ∷ [])) is
     (c.in-Ok.ensures.replied, ap (λ (x : Content _ Op Reply). x ∷ []) c.in-Ok.ensures.moved) in
     has_made F laws declared watched_agrees v layout (One p) op (cell ∷ []) has few reply (new ∷ []) made (lock_word new.number) c.draw_one.new.pass.view
     (later_stamp v (new.number ∷ []) c.draw_one.result c.draw_one.ensures.stamp c.draw_one.ensures.later) c.draw_one.ensures.drawn.knows
