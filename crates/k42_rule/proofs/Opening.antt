@@ -211,7 +211,7 @@ module _ {S L P O R : Type 0} (F : Layouts S L P O R) (laws : AreLaws F) (declar
         old = λ place row is. absurd (cc);
         granted = λ place row is. absurd (cc);
         swept = λ o n is. absurd (cc);
-        spans = λ o less. absurd (let none = same_everywhere {A = ℕ × ℕ} (length declared) o (0, 0) in spans_none none less);
+        spans = λ o less. absurd (let none = same_everywhere {A = ℕ × ℕ} (length (map F.shapes_of declared)) o (0, 0) in spans_none none less);
       };
     };
     cells = record {

@@ -47,6 +47,11 @@ invariant_of-pass g c =
       was.20,
     )
 
+pub index_mut-requires : goal.index_mut-requires
+index_mut-requires g c =
+    let there = c.free_word-found.ensures.takes.finds.there in let long = c.pass.inside.freeing.ok.0 in
+    let same = ap (λ (own : Own). length own.freeing) c.pass.invariant.0.own_is in omega (arith, there, long, same)
+
 pub returns-then-found-from : goal.returns-then-found-from
 returns-then-found-from g c = record {
   same = search rules;
