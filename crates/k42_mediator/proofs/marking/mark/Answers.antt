@@ -20,7 +20,7 @@ use Rattle.k42_mediator.proofs.SamePass.{same_twice, draws_between}
 use Rattle.k42_mediator.proofs.marking.mark.Goals as goal
 
 pub answer_over-answer-requires : goal.answer_over-answer-requires
-answer_over-answer-requires g c κs within =
+answer_over-answer-requires g c =
     let live = live_told c.requires.ours.shapes (sym c.last_of-begin.ensures.object) c.declared.ensures.shapes c.live.ensures in
     (λ j. is_over_in (sym live j) (c.last_of-begin.ensures.word j)) ∙ c.requires.may.over
 

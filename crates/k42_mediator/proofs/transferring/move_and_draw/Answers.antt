@@ -22,7 +22,7 @@ use Rattle.k42_mediator.proofs.RowReady.{HasRows, has_rows, live, long, whole, f
 use Rattle.k42_mediator.proofs.transferring.move_and_draw.Goals as goal
 
 pub with_tag-layout-requires : goal.with_tag-layout-requires
-with_tag-layout-requires g c κs within =
+with_tag-layout-requires g c =
     let v = c.args.pass.now.view in let o : ℕ = c.args.row.object in
     let live = (c.requires.rows.moved o c.requires.moved c.requires.unhanded).1 in let tag = c.begun_layout.ensures.is in
     let many = ap length (told_of c.args.row.object c.requires.ours.shapes c.declared.ensures.shapes) in
