@@ -192,11 +192,6 @@ module _ (shapes : List (List Shape)) (swap : SwapAt) (turned : Bool) (handed : 
     known = subst (λ o. IsKnownTag (get_or shapes o []) tag) (sym (fits.object (object_named swap) (moved_names swap e))) known;
   }
 
-  -- the layout with which it has handed on is one of its object
-  pub handed_known : is_some handed ≡ true → IsKnownTag (get_or shapes (object_named swap) []) (unwrap_or handed 0)
-  handed_known some =
-      subst (λ o. IsKnownTag (get_or shapes o []) (unwrap_or handed 0)) (fits.object (object_named swap) (moved_names swap (fits.moved some))) fits.known
-
   -- and turns its object over
   pub fits_turned : is_moved swap ≡ true → FitsSwap shapes (Opening (object_named swap) 0) true None last
   fits_turned e = record {
