@@ -1,5 +1,5 @@
 -- The cells of a row, and its parts one by one.
-use Rattle.std.proofs.Common.{◌≡◌, ◌≢◌, ◌⊎◌, ℕ, zero, suc, ◌+◌, ◌/◌, ◌%◌, ◌<◌, ◌≤◌, Bool, true, false, not, cond, eqb, List, [], ◌∷◌, Option, Some, None, length, sym, refl, ap, ◌∙◌, inl, inr, arith}
+use Rattle.std.proofs.Common.{◌≡◌, ◌≢◌, ◌⊎◌, ℕ, zero, suc, ◌+◌, ◌/◌, ◌%◌, ◌<◌, ◌≤◌, Bool, true, false, not, List, [], ◌∷◌, Option, Some, None, length, sym, refl, ap, ◌∙◌, inl, inr, arith}
 use Rattle.std.specs.List.{slice_get}
 use Rattle.std.specs.Prelude.{unwrap_or}
 use Rattle.std.proofs.lemmas.Option.{same_Some}
@@ -112,4 +112,3 @@ due_value ways procs place (Some own) d due = due
 pub due_none : {S P O R : Type 0} (ways : Ways S P O R) (procs place : ℕ) (own : Option P) → HasDue ways procs place own None → own ≡ None
 due_none ways procs place None due = refl
 due_none ways procs place (Some own) due = absurd due
-

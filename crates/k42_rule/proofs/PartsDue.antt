@@ -1,5 +1,5 @@
 -- The parts that are due by what a pass has noted are those of the row.
-use Rattle.std.proofs.Common.{◌≡◌, ℕ, zero, suc, ◌+◌, ◌<◌, ◌≤◌, Bool, true, false, ◌||◌, cond, eqb, List, [], ◌∷◌, Option, Some, None, length, refl, sym, ap, ◌∙◌, subst, arith}
+use Rattle.std.proofs.Common.{◌≡◌, ℕ, zero, suc, ◌+◌, ◌<◌, Bool, true, false, ◌||◌, cond, eqb, List, [], ◌∷◌, Option, Some, None, length, refl, sym, ap, ◌∙◌, subst, arith}
 use Rattle.std.specs.List.{slice_get}
 use Rattle.std.specs.Option.{unwrap_or}
 use Rattle.std.proofs.lemmas.Bool.{eqb-true}
@@ -143,7 +143,7 @@ module _ {S L P O R : Type 0} (F : Layouts S L P O R) (laws : AreLaws F) (declar
       → names (cells_noted notes) (cell_of o i p) ≡ true → IsReached (F.ways_of layout) (F.Whole layout) (part_due (F.ways_of layout) F.procs notes o i p) op
   part_reached op proc p there takes reach noted =
       let known : IsKnown F layout =
-          subst (λ (z : List Shape × ℕ). IsKnownTag z.0 z.1) (λ j. (laws.alike is.layout layout kinds j, is.tagged j)) is.known in
+      subst (λ (z : List Shape × ℕ). IsKnownTag z.0 z.1) (λ j. (laws.alike is.layout layout kinds j, is.tagged j)) is.known in
       let lt : p < cells_of (shape_of F layout) F.procs =
       subst (λ r. IsWithin (cells_of (shape_of F layout) F.procs) r) reach (laws.reaches layout proc op known there takes) in
       record {

@@ -94,14 +94,14 @@ invariant_of-pass g c =
     let mine_now = mine_is F sys.layouts cells c.args.to.now c.args.answer v c.requires.may entry tag c.hand_word.new.seat.me (lock_word (first_cell (numbers_of cells))) told.0 in
     let met = g.met.L.Layout g.world.𝓛 g.world.𝓜 g.world.𝓡 ((λ s x. x), (λ x. x), (λ x. x), λ x. x) in
     let stays : (pass_in c.tell_all.new.seat.me.0).shapes ≡ (pass_in c.pass.inside.seat.me.0).shapes =
-        ap (λ (m : Seated _ _ _). (pass_in m.0).shapes) c.tell_all.ensures.seated ∙ ap (λ (m : Seated _ _ _). (pass_in m.0).shapes) taken.alone in
+    ap (λ (m : Seated _ _ _). (pass_in m.0).shapes) c.tell_all.ensures.seated ∙ ap (λ (m : Seated _ _ _). (pass_in m.0).shapes) taken.alone in
     let named : object_named c.pass.inside.swap ≡ c.requires.may.object = ap (λ (o : Own). object_named o.swap) own ∙ ap object_named c.requires.may.moved in
     let own_shapes : get_or (pass_in c.pass.inside.seat.me.0).shapes (object_named c.pass.inside.swap) [] ≡ g.L.Layout.shapes c.args.to.now =
-        shapes_asked g.L.Layout.shapes c.sys.inside.board.shared.key.layouts.items sys.layouts sys.shapes (ap (λ (s : SysSeen _). s.layouts) c.sys.view_is) (ap (λ (s : SysSeen _). s.shapes) c.sys.view_is)
-        (object_named c.pass.inside.swap) c.requires.may.object c.requires.may.declaration (pass_in c.pass.inside.seat.me.0).shapes
-        (ap (λ (x : PassView _ _ _). x.shapes) same ∙ c.requires.shapes) named c.requires.may.declares ∙ sym (met.alike c.args.to.now c.requires.may.declaration c.requires.may.kind) in
+    shapes_asked g.L.Layout.shapes c.sys.inside.board.shared.key.layouts.items sys.layouts sys.shapes (ap (λ (s : SysSeen _). s.layouts) c.sys.view_is) (ap (λ (s : SysSeen _). s.shapes) c.sys.view_is)
+    (object_named c.pass.inside.swap) c.requires.may.object c.requires.may.declaration (pass_in c.pass.inside.seat.me.0).shapes
+    (ap (λ (x : PassView _ _ _). x.shapes) same ∙ c.requires.shapes) named c.requires.may.declares ∙ sym (met.alike c.args.to.now c.requires.may.declaration c.requires.may.kind) in
     let known_tag : IsKnownTag (get_or (pass_in c.pass.inside.seat.me.0).shapes (object_named c.pass.inside.swap) []) c.tag.result =
-        subst (λ (z : List Shape × ℕ). IsKnownTag z.0 z.1) (λ j. (sym own_shapes j, sym c.tag.ensures j)) c.requires.may.known in (
+    subst (λ (z : List Shape × ℕ). IsKnownTag z.0 z.1) (λ j. (sym own_shapes j, sym c.tag.ensures j)) c.requires.may.known in (
       mirrors_is F sys.layouts cells c.args.to.now c.args.answer v c.requires.may entry tag c.hand_word.new.seat.me (lock_word (first_cell (numbers_of cells))) told.0 c.tell_all.new.seat.me c.tell_all.ensures.seated
           c.pass.inside.seat.me _ _ old.0 same (λ j. record (own_in (pass_in c.pass.inside.seat.me.0)) {
             number = c.pass.inside.number;
