@@ -1,5 +1,5 @@
 -- The cell of a representative.
-use Rattle.std.specs.Prelude.{◌≡◌, ℕ, ◌<◌, ◌≤◌, ◌++◌, Bool, List, Some, slice_get}
+use Rattle.std.specs.Prelude.{◌≡◌, ℕ, ◌<◌, ◌++◌, Bool, List, Some, slice_get}
 use Rattle.k42_shapes.specs.Shapes.{cells_of}
 use Rattle.phase_core.specs.Stages.{IsInside}
 use Rattle.k42_stamp.specs.Layouts.{Layouts, IsKnown, shape_of}
