@@ -6,7 +6,8 @@ use Rattle.k42_kinds.specs.declared.operation.KindName.{KindName}
 use Rattle.k42_kinds.specs.declared.operation.KindName.TheVariants as kinds
 use Rattle.k42_kinds.specs.declared.states.AnyState.TheVariants as states
 use Rattle.k42_kinds.specs.Objects.{Directory, Pages}
-use Rattle.k42_kinds.specs.Rows.{part_at, cells_of}
+use Rattle.k42_kinds.specs.Rows.{part_at}
+use Rattle.k42_shapes.specs.Shapes.{cells_of, shape_at, shared_and_spread}
 use Rattle.k42_kinds.specs.LayoutLaws.{IsWholeRow}
 use Rattle.k42_kinds.proofs.RowSteps.{part_there}
 use Rattle.co_counter.specs.Counters.{IsOneValue, value_of, total_of}
@@ -25,7 +26,7 @@ whole_at kind known tag its row tags same whole = record {
   whole = subst (λ (k : KindName). whole_of k its whole.procs row) same (subst (λ (t : ℕ). whole_of kind t whole.procs row) tags whole.whole);
 }
 
-some_cells : (tag procs : ℕ) → tag ≤ 2 → 0 < procs → 0 < cells_of tag procs
+some_cells : (tag procs : ℕ) → tag ≤ 2 → 0 < procs → 0 < cells_of (shape_at shared_and_spread tag) procs
 some_cells zero procs known some = omega arith
 some_cells (suc zero) procs known some = some
 some_cells (suc (suc zero)) procs known some = omega arith

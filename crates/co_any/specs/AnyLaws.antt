@@ -1,6 +1,8 @@
 -- The layouts of all kinds keep the laws of layouts.
-use Rattle.std.specs.Prelude.{◌≡◌, ◌==◌, ℕ, zero, suc, ◌<◌, ◌≤◌, false, IsTrue, List, [], ◌∷◌, refl}
+use Rattle.std.specs.Prelude.{◌≡◌, ℕ, zero, suc, ◌<◌, ◌≤◌, false, IsTrue, List, [], ◌∷◌, refl}
 use Rattle.std.proofs.Common.{arith, ap, sym, subst}
+use Rattle.k42_shapes.specs.declared.shape.Shape.TheVariants as shapes
+use Rattle.k42_shapes.specs.Shapes.{IsKnownTag, IsLiveTag, cells_of, is_dead_tag, shape_at, shared_and_spread}
 use Rattle.k42_kinds.specs.declared.operation.KindName.{KindName}
 use Rattle.k42_kinds.specs.declared.operation.KindName.TheVariants as kinds
 use Rattle.k42_kinds.specs.declared.operation.Op.{Op}
@@ -10,7 +12,7 @@ use Rattle.k42_kinds.specs.declared.entry.Reach.TheVariants.{One, All}
 use Rattle.k42_kinds.specs.Objects.{plain_object, counter_object, directory_object, pages_object, is_dead}
 use Rattle.k42_kinds.specs.Operations.{takes_operation}
 use Rattle.k42_kinds.specs.Histories.{is_call}
-use Rattle.k42_kinds.specs.Rows.{cells_of, IsWithin}
+use Rattle.k42_kinds.specs.Rows.{IsWithin}
 use Rattle.k42_kinds.specs.LayoutLaws.{StepsRow, StandsFor, Begins, Imports, AdmitsAsSwapped, Agree}
 use Rattle.co_counter.specs.Counters as counters
 use Rattle.co_counter.specs.SharedLaws as one_value
@@ -50,7 +52,7 @@ dead_steps kind procs (part ∷ other ∷ row) op whole = absurd (cc whole)
 dead_steps_all : (kind : KindName) (procs : ℕ) (row : List AnyPart) (op : Op) → IsDeadRow procs row → StepsRow (plain_object kind) dead (IsDeadRow procs) row op All
 dead_steps_all kind procs row op whole = record { whole = whole; moved = refl; replied = refl }
 
-pub any_steps : (kind : KindName) (tag procs proc : ℕ) (row : List AnyPart) (op : Op) → tag ≤ 2 → proc < procs → IsTrue (takes_operation kind op) → whole_of kind tag procs row → StepsRow (plain_object kind) (ways_of kind tag) (whole_of kind tag procs) row op ((ways_of kind tag).reach procs op proc)
+pub any_steps : (kind : KindName) (tag procs proc : ℕ) (row : List AnyPart) (op : Op) → IsKnownTag shared_and_spread tag → proc < procs → IsTrue (takes_operation kind op) → whole_of kind tag procs row → StepsRow (plain_object kind) (ways_of kind tag) (whole_of kind tag procs) row op ((ways_of kind tag).reach procs op proc)
 any_steps kinds.Counter zero procs proc row op known there takes whole = lifted_steps amounts (λ part. refl) (plain_object kinds.Counter) counter_object amounts_follow counters.shared counters.IsOneValue procs row op (One 0) whole (one_value.shared_steps procs _ op whole.whole)
 any_steps kinds.Directory zero procs proc row op known there takes whole = lifted_steps indexed (λ part. refl) (plain_object kinds.Directory) directory_object indexed_follow directories.shared directories.IsOneMap procs row op (One 0) whole (one_directory.shared_steps procs _ op whole.whole)
 any_steps kinds.Pages zero procs proc row op known there takes whole = lifted_steps pages (λ part. refl) (plain_object kinds.Pages) pages_object pages_follow one_map.shared one_map.IsOneMap procs row op (One 0) whole (one_map_laws.shared_steps procs _ op whole.whole)
@@ -59,7 +61,7 @@ any_steps kinds.Directory (suc zero) procs proc row op known there takes whole =
 any_steps kinds.Pages (suc zero) procs proc row op known there takes whole = lifted_steps places (λ part. refl) (plain_object kinds.Pages) pages_object places_follow spread_rows.spread spread_rows.IsSpread procs row op (spread_rows.spread_reach procs op proc) whole (place_laws.spread_steps procs proc _ op there takes whole.whole)
 any_steps kind (suc (suc more)) procs proc row op known there takes whole = dead_steps kind procs row op whole
 
-pub any_steps_all : (kind : KindName) (tag procs : ℕ) (row : List AnyPart) (op : Op) → tag ≤ 2 → 0 < procs → IsTrue (takes_operation kind op) → whole_of kind tag procs row → StepsRow (plain_object kind) (ways_of kind tag) (whole_of kind tag procs) row op All
+pub any_steps_all : (kind : KindName) (tag procs : ℕ) (row : List AnyPart) (op : Op) → IsKnownTag shared_and_spread tag → 0 < procs → IsTrue (takes_operation kind op) → whole_of kind tag procs row → StepsRow (plain_object kind) (ways_of kind tag) (whole_of kind tag procs) row op All
 any_steps_all kinds.Counter zero procs row op known some takes whole = lifted_steps amounts (λ part. refl) (plain_object kinds.Counter) counter_object amounts_follow counters.shared counters.IsOneValue procs row op All whole (one_value.shared_steps_all procs _ op whole.whole)
 any_steps_all kinds.Directory zero procs row op known some takes whole = lifted_steps indexed (λ part. refl) (plain_object kinds.Directory) directory_object indexed_follow directories.shared directories.IsOneMap procs row op All whole (one_directory.shared_steps_all procs _ op whole.whole)
 any_steps_all kinds.Pages zero procs row op known some takes whole = lifted_steps pages (λ part. refl) (plain_object kinds.Pages) pages_object pages_follow one_map.shared one_map.IsOneMap procs row op All whole (one_map_laws.shared_steps_all procs _ op whole.whole)
@@ -68,7 +70,7 @@ any_steps_all kinds.Directory (suc zero) procs row op known some takes whole = l
 any_steps_all kinds.Pages (suc zero) procs row op known some takes whole = lifted_steps places (λ part. refl) (plain_object kinds.Pages) pages_object places_follow spread_rows.spread spread_rows.IsSpread procs row op All whole (place_laws.spread_steps_all procs _ op some takes whole.whole)
 any_steps_all kind (suc (suc more)) procs row op known some takes whole = dead_steps_all kind procs row op whole
 
-pub any_reaches : (kind : KindName) (tag procs proc : ℕ) (op : Op) → tag ≤ 2 → proc < procs → IsTrue (takes_operation kind op) → IsWithin (cells_of tag procs) ((ways_of kind tag).reach procs op proc)
+pub any_reaches : (kind : KindName) (tag procs proc : ℕ) (op : Op) → IsKnownTag shared_and_spread tag → proc < procs → IsTrue (takes_operation kind op) → IsWithin (cells_of (shape_at shared_and_spread tag) procs) ((ways_of kind tag).reach procs op proc)
 any_reaches kinds.Counter zero procs proc op known there takes = omega arith
 any_reaches kinds.Directory zero procs proc op known there takes = omega arith
 any_reaches kinds.Pages zero procs proc op known there takes = omega arith
@@ -78,27 +80,27 @@ any_reaches kinds.Pages (suc zero) procs proc op known there takes = place_laws.
 any_reaches kind (suc (suc zero)) procs proc op known there takes = omega arith
 any_reaches kind (suc (suc (suc more))) procs proc op known there takes = absurd (omega arith)
 
-pub any_stands : (kind : KindName) (tag procs : ℕ) (row : List AnyPart) → tag ≤ 2 → 0 < procs → whole_of kind tag procs row → StandsFor (ways_of kind tag) (serves_of kind tag) tag procs row
-any_stands kinds.Counter zero procs row known some whole = lifted_stands amounts (λ part. refl) (plain_object kinds.Counter) counter_object amounts_follow counters.shared counters.IsOneValue procs counters.IsValue (IsAlive kinds.Counter) 0 row (λ state served. served) (one_value.shared_stands procs _ whole.whole)
-any_stands kinds.Directory zero procs row known some whole = lifted_stands indexed (λ part. refl) (plain_object kinds.Directory) directory_object indexed_follow directories.shared directories.IsOneMap procs (λ names. Unit {0}) (IsAlive kinds.Directory) 0 row (λ state served. served) (record { sized = whole.whole; served = tt })
-any_stands kinds.Pages zero procs row known some whole = lifted_stands pages (λ part. refl) (plain_object kinds.Pages) pages_object pages_follow one_map.shared one_map.IsOneMap procs one_map.IsAny (IsAlive kinds.Pages) 0 row (λ state served. served) (one_map_laws.shared_stands procs _ whole.whole)
-any_stands kinds.Counter (suc zero) procs row known some whole = lifted_stands amounts (λ part. refl) (plain_object kinds.Counter) counter_object amounts_follow counters.spread counters.HasAmounts procs counters.IsValue (IsAlive kinds.Counter) 1 row (λ state served. served) (amount_laws.spread_stands procs _ whole.whole)
-any_stands kinds.Directory (suc zero) procs row known some whole = lifted_stands copies (λ part. refl) (plain_object kinds.Directory) directory_object copies_follow directories.spread directories.AreCopies procs (λ names. Unit {0}) (IsAlive kinds.Directory) 1 row (λ state served. served) (copy_laws.spread_stands procs _ whole.whole)
-any_stands kinds.Pages (suc zero) procs row known some whole = lifted_stands places (λ part. refl) (plain_object kinds.Pages) pages_object places_follow spread_rows.spread spread_rows.IsSpread procs one_map.IsAny (IsAlive kinds.Pages) 1 row (λ state served. served) (place_laws.spread_stands procs _ whole.whole)
+pub any_stands : (kind : KindName) (tag procs : ℕ) (row : List AnyPart) → IsKnownTag shared_and_spread tag → 0 < procs → whole_of kind tag procs row → StandsFor (ways_of kind tag) (serves_of kind tag) (shape_at shared_and_spread tag) procs row
+any_stands kinds.Counter zero procs row known some whole = lifted_stands amounts (λ part. refl) (plain_object kinds.Counter) counter_object amounts_follow counters.shared counters.IsOneValue procs counters.IsValue (IsAlive kinds.Counter) shapes.One row (λ state served. served) (one_value.shared_stands procs _ whole.whole)
+any_stands kinds.Directory zero procs row known some whole = lifted_stands indexed (λ part. refl) (plain_object kinds.Directory) directory_object indexed_follow directories.shared directories.IsOneMap procs (λ names. Unit {0}) (IsAlive kinds.Directory) shapes.One row (λ state served. served) (record { sized = whole.whole; served = tt })
+any_stands kinds.Pages zero procs row known some whole = lifted_stands pages (λ part. refl) (plain_object kinds.Pages) pages_object pages_follow one_map.shared one_map.IsOneMap procs one_map.IsAny (IsAlive kinds.Pages) shapes.One row (λ state served. served) (one_map_laws.shared_stands procs _ whole.whole)
+any_stands kinds.Counter (suc zero) procs row known some whole = lifted_stands amounts (λ part. refl) (plain_object kinds.Counter) counter_object amounts_follow counters.spread counters.HasAmounts procs counters.IsValue (IsAlive kinds.Counter) shapes.Each row (λ state served. served) (amount_laws.spread_stands procs _ whole.whole)
+any_stands kinds.Directory (suc zero) procs row known some whole = lifted_stands copies (λ part. refl) (plain_object kinds.Directory) directory_object copies_follow directories.spread directories.AreCopies procs (λ names. Unit {0}) (IsAlive kinds.Directory) shapes.Each row (λ state served. served) (copy_laws.spread_stands procs _ whole.whole)
+any_stands kinds.Pages (suc zero) procs row known some whole = lifted_stands places (λ part. refl) (plain_object kinds.Pages) pages_object places_follow spread_rows.spread spread_rows.IsSpread procs one_map.IsAny (IsAlive kinds.Pages) shapes.Each row (λ state served. served) (place_laws.spread_stands procs _ whole.whole)
 any_stands kind (suc (suc zero)) procs row known some whole = record { sized = rw whole refl; served = refl }
 any_stands kind (suc (suc (suc more))) procs row known some whole = absurd (omega arith)
 
-pub any_begins : (kind : KindName) (tag procs : ℕ) → tag ≤ 2 → 0 < procs → Begins (plain_object kind) (ways_of kind tag) (whole_of kind tag procs) tag procs
-any_begins kinds.Counter zero procs known some = lifted_begins amounts (λ part. refl) (plain_object kinds.Counter) counter_object amounts_follow counters.shared counters.IsOneValue procs 0 (record { whole = omega arith; empty = λ live. refl })
-any_begins kinds.Directory zero procs known some = lifted_begins indexed (λ part. refl) (plain_object kinds.Directory) directory_object indexed_follow directories.shared directories.IsOneMap procs 0 (record { whole = refl; empty = λ live. refl })
-any_begins kinds.Pages zero procs known some = lifted_begins pages (λ part. refl) (plain_object kinds.Pages) pages_object pages_follow one_map.shared one_map.IsOneMap procs 0 (record { whole = tt; empty = λ live. refl })
-any_begins kinds.Counter (suc zero) procs known some = lifted_begins amounts (λ part. refl) (plain_object kinds.Counter) counter_object amounts_follow counters.spread counters.HasAmounts procs 1 (amount_laws.spread_begins procs)
-any_begins kinds.Directory (suc zero) procs known some = lifted_begins copies (λ part. refl) (plain_object kinds.Directory) directory_object copies_follow directories.spread directories.AreCopies procs 1 (copy_laws.spread_begins procs some)
-any_begins kinds.Pages (suc zero) procs known some = lifted_begins places (λ part. refl) (plain_object kinds.Pages) pages_object places_follow spread_rows.spread spread_rows.IsSpread procs 1 (place_laws.spread_begins procs)
+pub any_begins : (kind : KindName) (tag procs : ℕ) → IsKnownTag shared_and_spread tag → 0 < procs → Begins (plain_object kind) (ways_of kind tag) (whole_of kind tag procs) shared_and_spread tag procs
+any_begins kinds.Counter zero procs known some = lifted_begins amounts (λ part. refl) (plain_object kinds.Counter) counter_object amounts_follow counters.shared counters.IsOneValue procs shared_and_spread 0 (record { whole = omega arith; empty = λ live. refl })
+any_begins kinds.Directory zero procs known some = lifted_begins indexed (λ part. refl) (plain_object kinds.Directory) directory_object indexed_follow directories.shared directories.IsOneMap procs shared_and_spread 0 (record { whole = refl; empty = λ live. refl })
+any_begins kinds.Pages zero procs known some = lifted_begins pages (λ part. refl) (plain_object kinds.Pages) pages_object pages_follow one_map.shared one_map.IsOneMap procs shared_and_spread 0 (record { whole = tt; empty = λ live. refl })
+any_begins kinds.Counter (suc zero) procs known some = lifted_begins amounts (λ part. refl) (plain_object kinds.Counter) counter_object amounts_follow counters.spread counters.HasAmounts procs shared_and_spread 1 (amount_laws.spread_begins procs)
+any_begins kinds.Directory (suc zero) procs known some = lifted_begins copies (λ part. refl) (plain_object kinds.Directory) directory_object copies_follow directories.spread directories.AreCopies procs shared_and_spread 1 (copy_laws.spread_begins procs some)
+any_begins kinds.Pages (suc zero) procs known some = lifted_begins places (λ part. refl) (plain_object kinds.Pages) pages_object places_follow spread_rows.spread spread_rows.IsSpread procs shared_and_spread 1 (place_laws.spread_begins procs)
 any_begins kind (suc (suc zero)) procs known some = record { whole = refl; empty = λ live. absurd (omega arith) }
 any_begins kind (suc (suc (suc more))) procs known some = absurd (omega arith)
 
-pub any_imports : (kind : KindName) (tag procs : ℕ) (state : AnyState) → tag ≤ 2 → 0 < procs → serves_of kind tag state → Imports (ways_of kind tag) (whole_of kind tag procs) procs state
+pub any_imports : (kind : KindName) (tag procs : ℕ) (state : AnyState) → IsKnownTag shared_and_spread tag → 0 < procs → serves_of kind tag state → Imports (ways_of kind tag) (whole_of kind tag procs) procs state
 any_imports kinds.Counter zero procs (states.Counter value) known some served = lifted_imports amounts (λ part. refl) (plain_object kinds.Counter) counter_object amounts_follow counters.shared counters.IsOneValue procs value refl (record { whole = served; back = refl })
 any_imports kinds.Directory zero procs (states.Directory names) known some served = lifted_imports indexed (λ part. refl) (plain_object kinds.Directory) directory_object indexed_follow directories.shared directories.IsOneMap procs names refl (record { whole = refl; back = refl })
 any_imports kinds.Pages zero procs (states.Pages kept) known some served = lifted_imports pages (λ part. refl) (plain_object kinds.Pages) pages_object pages_follow one_map.shared one_map.IsOneMap procs kept refl (record { whole = tt; back = refl })
@@ -133,7 +135,7 @@ alive_not_dead kinds.Counter states.Dead alive = absurd alive
 alive_not_dead kinds.Directory states.Dead alive = absurd alive
 alive_not_dead kinds.Pages states.Dead alive = absurd alive
 
-pub any_ends : (kind : KindName) (tag : ℕ) (state : AnyState) → tag ≤ 2 → serves_of kind tag state → is_dead state ≡ (tag == 2)
+pub any_ends : (kind : KindName) (tag : ℕ) (state : AnyState) → IsKnownTag shared_and_spread tag → serves_of kind tag state → is_dead state ≡ is_dead_tag shared_and_spread tag
 any_ends kind zero state known served = alive_not_dead kind state served
 any_ends kind (suc zero) state known served = alive_not_dead kind state served
 any_ends kind (suc (suc zero)) state known served = ap is_dead served
@@ -151,12 +153,12 @@ same_kind kinds.Directory kinds.Pages same = let start = ap (λ object. object.s
 same_kind kinds.Pages kinds.Counter same = let start = ap (λ object. object.start) same in absurd (cc start)
 same_kind kinds.Pages kinds.Directory same = let start = ap (λ object. object.start) same in absurd (cc start)
 
-live_serves : (kind : KindName) (tag : ℕ) (state : AnyState) → tag ≤ 1 → serves_of kind tag state → IsAlive kind state
+live_serves : (kind : KindName) (tag : ℕ) (state : AnyState) → IsLiveTag shared_and_spread tag → serves_of kind tag state → IsAlive kind state
 live_serves kind zero state live served = served
 live_serves kind (suc zero) state live served = served
 live_serves kind (suc (suc more)) state live served = absurd (omega arith)
 
-pub any_admits : (kind before : KindName) (tag old : ℕ) (state : AnyState) → old ≤ 1 → plain_object before ≡ plain_object kind → serves_of before old state → serves_of kind tag (admitted_of tag state)
+pub any_admits : (kind before : KindName) (tag old : ℕ) (state : AnyState) → IsLiveTag shared_and_spread old → plain_object before ≡ plain_object kind → serves_of before old state → serves_of kind tag (admitted_of tag state)
 any_admits kind before zero old state live same served = subst (λ k. IsAlive k state) (same_kind before kind same) (live_serves before old state live served)
 any_admits kind before (suc zero) old state live same served = subst (λ k. IsAlive k state) (same_kind before kind same) (live_serves before old state live served)
 any_admits kind before (suc (suc more)) old state live same served = refl

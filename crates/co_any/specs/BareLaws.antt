@@ -1,6 +1,7 @@
 -- The layouts of all kinds know of no layer.
 use Rattle.std.specs.Prelude.{◌≡◌, ◌≢◌, ℕ, zero, suc, ◌≤◌, true, refl}
 use Rattle.std.proofs.Common.{ap, ◌∙◌, inl, inr, arith}
+use Rattle.k42_shapes.specs.Shapes.{IsKnownTag, is_dead_tag, shared_and_spread}
 use Rattle.k42_kinds.specs.declared.operation.KindName.{KindName}
 use Rattle.k42_kinds.specs.declared.operation.LayoutName.TheVariants as layouts
 use Rattle.k42_kinds.specs.declared.operation.Op.{Op}
@@ -58,8 +59,8 @@ keeps_to kind state tos.Dead live = absurd (live refl)
 pub any_keeps_state : (kind : KindName) → KeepsState (plain_object kind)
 any_keeps_state kind = keeps_to kind
 
-pub any_asks_by_tag : (tag : ℕ) → tag ≤ 2 → AsksByTag tag (act_of tag)
+pub any_asks_by_tag : (tag : ℕ) → IsKnownTag shared_and_spread tag → AsksByTag (is_dead_tag shared_and_spread tag) (act_of tag)
 any_asks_by_tag zero known = inl (record { live = refl; name = layouts.Shared; act = refl })
 any_asks_by_tag (suc zero) known = inl (record { live = refl; name = layouts.Spread; act = refl })
-any_asks_by_tag (suc (suc zero)) known = inr (record { dead = refl; act = refl })
+any_asks_by_tag (suc (suc zero)) known = inr (record { ended = refl; act = refl })
 any_asks_by_tag (suc (suc (suc more))) known = absurd (omega (arith, known))

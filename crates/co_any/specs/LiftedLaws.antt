@@ -2,13 +2,15 @@
 use Rattle.std.specs.Prelude.{◌≡◌, ℕ, zero, suc, List, [], ◌∷◌, map, Some, option_map, refl}
 use Rattle.std.proofs.Common.{ap, sym, subst, ◌∙◌}
 use Rattle.std.proofs.lemmas.List.{length-map}
+use Rattle.k42_shapes.specs.declared.shape.Shape.{Shape}
+use Rattle.k42_shapes.specs.Shapes.{cells_of, shape_at}
 use Rattle.k42_kinds.specs.declared.operation.Op.{Op}
 use Rattle.k42_kinds.specs.declared.operation.Reply.{Reply}
 use Rattle.k42_kinds.specs.declared.entry.Reach.{Reach}
 use Rattle.k42_kinds.specs.declared.entry.Reach.TheVariants.{One, All}
 use Rattle.k42_kinds.specs.declared.states.AnyState.{AnyState}
 use Rattle.k42_kinds.specs.OneThread.{OneThread}
-use Rattle.k42_kinds.specs.Rows.{Ways, changed_at, part_at, made_from, cells_of, empty_row, row_moved}
+use Rattle.k42_kinds.specs.Rows.{Ways, changed_at, part_at, made_from, empty_row, row_moved}
 use Rattle.k42_kinds.specs.LayoutLaws.{StepsRow, StandsFor, Begins, Imports}
 use Rattle.co_any.specs.declared.part.AnyPart.{AnyPart}
 use Rattle.co_any.specs.Lifting.{Standing, lifted, LiftedWhole}
@@ -79,20 +81,20 @@ module _ {S P : Type 0} (standing : Standing S P) (back : (part : P) → standin
     lifted_steps parts op (One cell) whole steps = lifted_step_one parts op cell whole steps
     lifted_steps parts op All whole steps = lifted_step_all parts op steps
 
-    pub lifted_stands : (Serves : S → Type 0) (AnyServes : AnyState → Type 0) (tag : ℕ) (parts : List AnyPart) → ((state : S) → Serves state → AnyServes (standing.state_of state)) → StandsFor ways Serves tag procs (map standing.own_part parts) → StandsFor (lifted standing ways) AnyServes tag procs parts
-    lifted_stands Serves AnyServes tag parts served stands = record {
+    pub lifted_stands : (Serves : S → Type 0) (AnyServes : AnyState → Type 0) (shape : Shape) (parts : List AnyPart) → ((state : S) → Serves state → AnyServes (standing.state_of state)) → StandsFor ways Serves shape procs (map standing.own_part parts) → StandsFor (lifted standing ways) AnyServes shape procs parts
+    lifted_stands Serves AnyServes shape parts served stands = record {
       sized = sym (length-map parts standing.own_part) ∙ stands.sized;
       served = served (ways.combine (map standing.own_part parts)) stands.served;
     }
 
-    pub lifted_begins : (tag : ℕ) → Begins one ways (Whole procs) tag procs → Begins any (lifted standing ways) (LiftedWhole standing Whole procs) tag procs
-    lifted_begins tag begins =
-        let made = made-own (ways.empty procs) 0 (cells_of tag procs) in
+    pub lifted_begins : (tags : List Shape) (tag : ℕ) → Begins one ways (Whole procs) tags tag procs → Begins any (lifted standing ways) (LiftedWhole standing Whole procs) tags tag procs
+    lifted_begins tags tag begins =
+        let made = made-own (ways.empty procs) 0 (cells_of (shape_at tags tag) procs) in
         record {
-          whole = subst (LiftedWhole standing Whole procs) (sym made) (whole_of_own Whole procs (empty_row ways tag procs) begins.whole);
+          whole = subst (LiftedWhole standing Whole procs) (sym made) (whole_of_own Whole procs (empty_row ways (shape_at tags tag) procs) begins.whole);
           empty = λ live.
               ap (λ row. standing.state_of (ways.combine (map standing.own_part row))) made
-              ∙ ap (λ row. standing.state_of (ways.combine row)) (map-own (empty_row ways tag procs))
+              ∙ ap (λ row. standing.state_of (ways.combine row)) (map-own (empty_row ways (shape_at tags tag) procs))
               ∙ ap standing.state_of (begins.empty live)
               ∙ sym follows.start;
         }

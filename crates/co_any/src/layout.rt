@@ -1,5 +1,7 @@
 //! All layouts as one type, with the dead one, so that one table can keep objects of every kind.
-ghost use Rattle.std.specs.Prelude.{◌≡◌, ◌≤◌, nat_le, IsTrue, IfOk};
+ghost use Rattle.std.specs.Prelude.{◌≡◌, ◌≤◌, nat_le, IsTrue, IfOk, refl};
+ghost use Rattle.std.proofs.Common.{arith};
+ghost use Rattle.k42_shapes.specs.Shapes.{shared_and_spread};
 ghost use Rattle.k42_kinds.specs.Objects.{plain_object};
 ghost use Rattle.co_any.specs.Layouts.{ways_of, whole_of, serves_of, admitted_of, act_of, tag_named};
 ghost use Rattle.co_any.specs.AnyLaws.{any_steps, any_steps_all, any_reaches, any_stands, any_begins, any_imports, any_ends, any_admits, any_swaps, any_asks, any_agrees};
@@ -17,6 +19,7 @@ use k42_kinds::{
     step_counter, step_directory, step_pages, told,
 };
 use k42_memory::Memory;
+use k42_shapes::Shape;
 use k42_watch::Bare;
 use std::alloc::Global;
 
@@ -62,6 +65,8 @@ impl Kind for AnyLayout {
 impl Layout for AnyLayout {
     type Part = AnyPart;
 
+    ghost shapes = { λ _. shared_and_spread };
+
     ghost tag_of = { λ layout. layout.tag };
 
     ghost has_tag = { λ _ tag. nat_le tag 2 };
@@ -78,6 +83,17 @@ impl Layout for AnyLayout {
 
     fn tag(&self) -> u32 {
         self.tag
+    }
+
+    fn live(&self) -> u32 {
+        2
+    }
+
+    fn shape(&self) -> Shape {
+        match self.tag {
+            1 => Shape::Each,
+            _ => Shape::One,
+        }
     }
 
     fn with_tag(&self, tag: u32) -> Self {
@@ -211,6 +227,10 @@ impl Layout for AnyLayout {
     ghost swaps = { λ layout state known. any_swaps layout.kind layout.tag state };
 
     ghost asks = { λ layout. any_asks layout.tag };
+
+    ghost alike = { λ layout other same. refl };
+
+    ghost few = { λ _. omega arith };
 
     ghost agrees = { λ layout other same tags. any_agrees layout.kind other.kind layout.tag other.tag same tags };
 }

@@ -1,5 +1,6 @@
 //! A row of parts of any kind, used as a row of one layout's own parts.
 ghost use Rattle.std.specs.Prelude.{◌≡◌, ◌+◌, ◌++◌, ◌≤◌, IsTrue, map, length, vec_len, vec_capacity, IfOk, OnOk, OnErr};
+ghost use Rattle.k42_shapes.specs.Shapes.{IsKnownTag};
 ghost use Rattle.k42_kinds.specs.LayoutLaws.{IsWholeRow};
 
 use crate::own::Own;
@@ -54,7 +55,7 @@ pub(crate) fn step_own<L: Layout>(
 ) -> Result<L::Reply, Memory>
 where
     L::Part: Own,
-    requires known { L.tag_of layout.now ≤ 2 }
+    requires known { IsKnownTag (L.shapes layout.now) (L.tag_of layout.now) }
     requires takes { IsTrue ((L.object layout.now).takes op.now) }
     requires own { parts.old.items ≡ map L.Part.part_of (map L.Part.own_part parts.old.items) }
     requires whole { IsWholeRow (L.whole layout.now) (map L.Part.own_part parts.old.items) }

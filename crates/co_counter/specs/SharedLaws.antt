@@ -2,6 +2,7 @@
 use Rattle.std.specs.Prelude.{◌≡◌, ℕ, ◌+◌, ◌%◌, ◌^◌, ◌<◌, ◌≤◌, IsTrue, List, [], ◌∷◌, refl}
 use Rattle.std.proofs.Common.{arith}
 use Rattle.std.proofs.lemmas.Grind.{common_steps}
+use Rattle.k42_shapes.specs.declared.shape.Shape.TheVariants as shapes
 use Rattle.k42_kinds.specs.declared.operation.Op.{Op}
 use Rattle.k42_kinds.specs.declared.operation.Op.TheVariants.{Add, Get, Drain, Bind, Find, Unbind, Size, Write, Read, Dirty, Clean, Seen}
 use Rattle.k42_kinds.specs.declared.entry.Reach.TheVariants.{One, All}
@@ -33,7 +34,7 @@ shared_steps_all procs [] op whole = absurd whole
 shared_steps_all procs (value ∷ []) op whole = record { whole = value_stays value op whole; moved = refl; replied = refl }
 shared_steps_all procs (value ∷ other ∷ values) op whole = absurd whole
 
-pub shared_stands : (procs : ℕ) (values : List ℕ) → IsOneValue procs values → StandsFor shared IsValue 0 procs values
+pub shared_stands : (procs : ℕ) (values : List ℕ) → IsOneValue procs values → StandsFor shared IsValue shapes.One procs values
 shared_stands procs [] whole = absurd whole
 shared_stands procs (value ∷ []) whole = record { sized = refl; served = whole }
 shared_stands procs (value ∷ other ∷ values) whole = absurd whole

@@ -2,6 +2,8 @@
 use Rattle.std.specs.Prelude.{◌≡◌, ℕ, zero, suc, ◌+◌, ◌%◌, ◌^◌, ◌<◌, ◌≤◌, IsTrue, List, [], ◌∷◌, length, replicate, Some, option_map, refl}
 use Rattle.std.proofs.Common.{arith}
 use Rattle.std.proofs.lemmas.Grind.{common_steps}
+use Rattle.k42_shapes.specs.declared.shape.Shape.TheVariants as shapes
+use Rattle.k42_shapes.specs.Shapes.{shared_and_spread}
 use Rattle.k42_kinds.specs.declared.operation.Op.{Op}
 use Rattle.k42_kinds.specs.declared.operation.Op.TheVariants.{Add, Get, Drain, Bind, Find, Unbind, Size, Write, Read, Dirty, Clean, Seen}
 use Rattle.k42_kinds.specs.declared.operation.Reply.TheVariants.{Done}
@@ -80,7 +82,7 @@ spread_reaches procs proc Dirty there takes = cc takes
 spread_reaches procs proc Clean there takes = cc takes
 spread_reaches procs proc Seen there takes = cc takes
 
-pub spread_stands : (procs : ℕ) (amounts : List ℕ) → HasAmounts procs amounts → StandsFor spread IsValue 1 procs amounts
+pub spread_stands : (procs : ℕ) (amounts : List ℕ) → HasAmounts procs amounts → StandsFor spread IsValue shapes.Each procs amounts
 spread_stands procs amounts whole = record { sized = whole; served = grind (arith, common_steps) }
 
 abbrev no_amount : ℕ → ℕ
@@ -94,7 +96,7 @@ total-zeros : (first many : ℕ) → total_of (made_from no_amount first many) �
 total-zeros first zero = grind (arith, common_steps)
 total-zeros first (suc many) = total-zeros (suc first) many
 
-pub spread_begins : (procs : ℕ) → Begins counter_object spread (HasAmounts procs) 1 procs
+pub spread_begins : (procs : ℕ) → Begins counter_object spread (HasAmounts procs) shared_and_spread 1 procs
 spread_begins procs = record { whole = length-zeros 0 procs; empty = λ live. total-zeros 0 procs }
 
 pub spread_imports : (procs value : ℕ) → 0 < procs → IsValue value → Imports spread (HasAmounts procs) procs value

@@ -1,6 +1,7 @@
 //! The layout of a counter that keeps one value for all.
 ghost use Rattle.std.specs.Prelude.{◌==◌, refl};
 ghost use Rattle.std.proofs.Common.{arith};
+ghost use Rattle.k42_shapes.specs.Shapes.{shared_and_spread};
 ghost use Rattle.k42_kinds.specs.declared.entry.Act.TheVariants.{Swap};
 ghost use Rattle.k42_kinds.specs.declared.entry.To.TheVariants as tos;
 ghost use Rattle.k42_kinds.specs.declared.operation.LayoutName.TheVariants.{Shared};
@@ -10,6 +11,7 @@ ghost use Rattle.co_counter.specs.SharedLaws.{shared_steps, shared_steps_all, sh
 
 use k42_kinds::{Act, Kind, Layout, LayoutName, Op, Reach, Reply, To, step_counter};
 use k42_memory::Memory;
+use k42_shapes::Shape;
 use std::alloc::Global;
 
 /// A counter in one part, which all processors use.
@@ -37,6 +39,8 @@ impl Kind for SharedCounter {
 impl Layout for SharedCounter {
     type Part = u64;
 
+    ghost shapes = { λ _. shared_and_spread };
+
     ghost tag_of = { λ _. 0 };
 
     ghost has_tag = { λ _ tag. tag == 0 };
@@ -53,6 +57,14 @@ impl Layout for SharedCounter {
 
     fn tag(&self) -> u32 {
         0
+    }
+
+    fn live(&self) -> u32 {
+        2
+    }
+
+    fn shape(&self) -> Shape {
+        Shape::One
     }
 
     fn with_tag(&self, _tag: u32) -> Self {
@@ -113,6 +125,10 @@ impl Layout for SharedCounter {
     ghost swaps = { λ _ value known number. refl };
 
     ghost asks = { λ _. refl };
+
+    ghost alike = { λ _ other same. refl };
+
+    ghost few = { λ _. omega arith };
 
     ghost agrees = { λ _ other same tags. record {
       ways = refl;

@@ -1,5 +1,7 @@
 //! The layout of a counter that keeps an amount for each processor.
 ghost use Rattle.std.specs.Prelude.{◌≡◌, ◌==◌, refl};
+ghost use Rattle.std.proofs.Common.{arith};
+ghost use Rattle.k42_shapes.specs.Shapes.{shared_and_spread};
 ghost use Rattle.k42_kinds.specs.declared.entry.Act.TheVariants.{Swap};
 ghost use Rattle.k42_kinds.specs.declared.entry.To.TheVariants as tos;
 ghost use Rattle.k42_kinds.specs.declared.operation.LayoutName.TheVariants as layouts;
@@ -9,6 +11,7 @@ ghost use Rattle.co_counter.specs.SpreadLaws.{spread_steps, spread_steps_all, sp
 
 use k42_kinds::{Act, Kind, Layout, LayoutName, Op, Reach, Reply, To, step_counter};
 use k42_memory::Memory;
+use k42_shapes::Shape;
 use std::alloc::Global;
 
 /// A counter as an amount for each processor. Its value is their sum, modulo 2^64.
@@ -47,6 +50,8 @@ fn total(amounts: &[u64]) -> u64
 impl Layout for SpreadCounter {
     type Part = u64;
 
+    ghost shapes = { λ _. shared_and_spread };
+
     ghost tag_of = { λ _. 1 };
 
     ghost has_tag = { λ _ tag. tag == 1 };
@@ -63,6 +68,14 @@ impl Layout for SpreadCounter {
 
     fn tag(&self) -> u32 {
         1
+    }
+
+    fn live(&self) -> u32 {
+        2
+    }
+
+    fn shape(&self) -> Shape {
+        Shape::Each
     }
 
     fn with_tag(&self, _tag: u32) -> Self {
@@ -136,6 +149,10 @@ impl Layout for SpreadCounter {
     ghost swaps = { λ _ value known number. refl };
 
     ghost asks = { λ _. refl };
+
+    ghost alike = { λ _ other same. refl };
+
+    ghost few = { λ _. omega arith };
 
     ghost agrees = { λ _ other same tags. record {
       ways = refl;

@@ -2,6 +2,8 @@
 use Rattle.std.specs.Prelude.{◌≡◌, ℕ, zero, suc, ◌<◌, List, [], ◌∷◌, length, map, replicate, Some, refl}
 use Rattle.std.proofs.Common.{arith, ap, sym, ◌∙◌}
 use Rattle.std.specs.FinMap as finite
+use Rattle.k42_shapes.specs.declared.shape.Shape.TheVariants as shapes
+use Rattle.k42_shapes.specs.Shapes.{shared_and_spread}
 use Rattle.k42_kinds.specs.declared.operation.Op.{Op}
 use Rattle.k42_kinds.specs.declared.operation.Op.TheVariants.{Add, Get, Drain, Bind, Find, Unbind, Size, Write, Read, Dirty, Clean, Seen}
 use Rattle.k42_kinds.specs.declared.entry.Reach.TheVariants.{One, All}
@@ -93,7 +95,7 @@ spread_reaches procs proc Dirty there = omega arith
 spread_reaches procs proc Clean there = omega arith
 spread_reaches procs proc Seen there = omega arith
 
-pub spread_stands : (procs : ℕ) (copies : List Directory) → AreCopies procs copies → StandsFor spread (λ names. Unit {0}) 1 procs copies
+pub spread_stands : (procs : ℕ) (copies : List Directory) → AreCopies procs copies → StandsFor spread (λ names. Unit {0}) shapes.Each procs copies
 spread_stands procs copies whole = record { sized = ap length whole ∙ length-copies procs (first_map copies); served = tt }
 
 -- a row that is made of one map
@@ -109,7 +111,7 @@ first-replicate (suc others) names some = refl
 copies_of_one : (procs : ℕ) (names : Directory) → 0 < procs → AreCopies procs (replicate procs names)
 copies_of_one procs names some = ap (λ first. replicate procs first) (sym (first-replicate procs names some))
 
-pub spread_begins : (procs : ℕ) → 0 < procs → Begins directory_object spread (AreCopies procs) 1 procs
+pub spread_begins : (procs : ℕ) → 0 < procs → Begins directory_object spread (AreCopies procs) shared_and_spread 1 procs
 spread_begins procs some = record {
   whole = rw (made-replicate finite.empty 0 procs) (copies_of_one procs finite.empty some);
   empty = λ live. ap first_map (made-replicate finite.empty 0 procs) ∙ first-replicate procs finite.empty some;

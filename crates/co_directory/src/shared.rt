@@ -1,6 +1,7 @@
 //! The layout of a directory that keeps one map for all.
 ghost use Rattle.std.specs.Prelude.{◌==◌, refl};
 ghost use Rattle.std.proofs.Common.{arith};
+ghost use Rattle.k42_shapes.specs.Shapes.{shared_and_spread};
 ghost use Rattle.k42_kinds.specs.declared.entry.Act.TheVariants.{Swap};
 ghost use Rattle.k42_kinds.specs.declared.entry.To.TheVariants as tos;
 ghost use Rattle.k42_kinds.specs.declared.operation.LayoutName.TheVariants.{Shared};
@@ -13,6 +14,7 @@ use k42_kinds::{
     Act, DirectoryState, Kind, Layout, LayoutName, Op, Reach, Reply, To, step_directory,
 };
 use k42_memory::Memory;
+use k42_shapes::Shape;
 use std::alloc::Global;
 
 /// A directory in one part, which all processors use.
@@ -40,6 +42,8 @@ impl Kind for SharedDirectory {
 impl Layout for SharedDirectory {
     type Part = IndexedNames;
 
+    ghost shapes = { λ _. shared_and_spread };
+
     ghost tag_of = { λ _. 0 };
 
     ghost has_tag = { λ _ tag. tag == 0 };
@@ -56,6 +60,14 @@ impl Layout for SharedDirectory {
 
     fn tag(&self) -> u32 {
         0
+    }
+
+    fn live(&self) -> u32 {
+        2
+    }
+
+    fn shape(&self) -> Shape {
+        Shape::One
     }
 
     fn with_tag(&self, _tag: u32) -> Self {
@@ -129,6 +141,10 @@ impl Layout for SharedDirectory {
     ghost swaps = { λ _ names known number. refl };
 
     ghost asks = { λ _. refl };
+
+    ghost alike = { λ _ other same. refl };
+
+    ghost few = { λ _. omega arith };
 
     ghost agrees = { λ _ other same tags. record {
       ways = refl;

@@ -1,5 +1,7 @@
 //! The layout of a directory that keeps a copy for each processor.
 ghost use Rattle.std.specs.Prelude.{◌==◌, refl};
+ghost use Rattle.std.proofs.Common.{arith};
+ghost use Rattle.k42_shapes.specs.Shapes.{shared_and_spread};
 ghost use Rattle.k42_kinds.specs.declared.entry.Act.TheVariants.{Swap};
 ghost use Rattle.k42_kinds.specs.declared.entry.To.TheVariants as tos;
 ghost use Rattle.k42_kinds.specs.declared.operation.LayoutName.TheVariants as layouts;
@@ -13,6 +15,7 @@ use k42_kinds::{
     Act, DirectoryState, Kind, Layout, LayoutName, Op, Reach, Reply, To, step_directory,
 };
 use k42_memory::Memory;
+use k42_shapes::Shape;
 use std::alloc::Global;
 
 /// A directory as a copy for each processor. A caller reads its own copy; a change is made in all.
@@ -40,6 +43,8 @@ impl Kind for SpreadDirectory {
 impl Layout for SpreadDirectory {
     type Part = DirectoryState;
 
+    ghost shapes = { λ _. shared_and_spread };
+
     ghost tag_of = { λ _. 1 };
 
     ghost has_tag = { λ _ tag. tag == 1 };
@@ -56,6 +61,14 @@ impl Layout for SpreadDirectory {
 
     fn tag(&self) -> u32 {
         1
+    }
+
+    fn live(&self) -> u32 {
+        2
+    }
+
+    fn shape(&self) -> Shape {
+        Shape::Each
     }
 
     fn with_tag(&self, _tag: u32) -> Self {
@@ -151,6 +164,10 @@ impl Layout for SpreadDirectory {
     ghost swaps = { λ _ names known number. refl };
 
     ghost asks = { λ _. refl };
+
+    ghost alike = { λ _ other same. refl };
+
+    ghost few = { λ _. omega arith };
 
     ghost agrees = { λ _ other same tags. record {
       ways = refl;

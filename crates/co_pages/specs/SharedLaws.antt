@@ -1,5 +1,6 @@
 -- The pages that are kept as one map keep the laws of layouts.
 use Rattle.std.specs.Prelude.{ℕ, List, [], ◌∷◌, refl}
+use Rattle.k42_shapes.specs.declared.shape.Shape.TheVariants as shapes
 use Rattle.k42_kinds.specs.declared.operation.Op.{Op}
 use Rattle.k42_kinds.specs.declared.entry.Reach.TheVariants.{One, All}
 use Rattle.k42_kinds.specs.Objects.{Pages, pages_object}
@@ -16,7 +17,7 @@ shared_steps_all procs [] op whole = absurd whole
 shared_steps_all procs (pages ∷ []) op whole = record { whole = tt; moved = refl; replied = refl }
 shared_steps_all procs (pages ∷ other ∷ others) op whole = absurd whole
 
-pub shared_stands : (procs : ℕ) (row : List Pages) → IsOneMap procs row → StandsFor shared IsAny 0 procs row
+pub shared_stands : (procs : ℕ) (row : List Pages) → IsOneMap procs row → StandsFor shared IsAny shapes.One procs row
 shared_stands procs [] whole = absurd whole
 shared_stands procs (pages ∷ []) whole = record { sized = refl; served = tt }
 shared_stands procs (pages ∷ other ∷ others) whole = absurd whole

@@ -2,6 +2,8 @@
 use Rattle.std.specs.Prelude.{◌≡◌, ℕ, zero, suc, ◌%◌, ◌<◌, IsTrue, List, [], ◌∷◌, length, fold, Some, option_map, option_and_then, refl}
 use Rattle.std.proofs.Common.{arith, sym, ap, subst, ◌∙◌, mod-lt}
 use Rattle.std.specs.FinMap as finite
+use Rattle.k42_shapes.specs.declared.shape.Shape.TheVariants as shapes
+use Rattle.k42_shapes.specs.Shapes.{shared_and_spread}
 use Rattle.k42_kinds.specs.declared.operation.Op.{Op}
 use Rattle.k42_kinds.specs.declared.operation.Op.TheVariants.{Add, Get, Drain, Bind, Find, Unbind, Size, Write, Read, Dirty, Clean, Seen}
 use Rattle.k42_kinds.specs.declared.operation.Reply.TheVariants.{Done, Number}
@@ -105,10 +107,10 @@ spread_reaches procs proc (Unbind key) there takes = cc takes
 spread_reaches procs proc Size there takes = cc takes
 spread_reaches procs proc Seen there takes = cc takes
 
-pub spread_stands : (procs : ℕ) (row : List CellPlaces) → IsSpread procs row → StandsFor spread IsAny 1 procs row
+pub spread_stands : (procs : ℕ) (row : List CellPlaces) → IsSpread procs row → StandsFor spread IsAny shapes.Each procs row
 spread_stands procs row whole = record { sized = length-spread procs row whole; served = tt }
 
-pub spread_begins : (procs : ℕ) → Begins pages_object spread (IsSpread procs) 1 procs
+pub spread_begins : (procs : ℕ) → Begins pages_object spread (IsSpread procs) shared_and_spread 1 procs
 spread_begins procs = record { whole = no_cells procs; empty = λ live. collected-none procs 0 procs finite.empty }
 
 pub spread_imports : (procs : ℕ) (pages : Pages) → 0 < procs → Imports spread (IsSpread procs) procs pages

@@ -1,6 +1,7 @@
 //! The layout of pages that keeps one map for all.
 ghost use Rattle.std.specs.Prelude.{◌≡◌, ◌==◌, IfOk, refl};
 ghost use Rattle.std.proofs.Common.{arith};
+ghost use Rattle.k42_shapes.specs.Shapes.{shared_and_spread};
 ghost use Rattle.k42_kinds.specs.declared.entry.Act.TheVariants.{Swap};
 ghost use Rattle.k42_kinds.specs.declared.entry.To.TheVariants as tos;
 ghost use Rattle.k42_kinds.specs.declared.operation.LayoutName.TheVariants.{Shared};
@@ -10,6 +11,7 @@ ghost use Rattle.co_pages.specs.SharedLaws.{shared_steps, shared_steps_all, shar
 
 use k42_kinds::{Act, Kind, Layout, LayoutName, Op, PagesState, Reach, Reply, To, step_pages};
 use k42_memory::Memory;
+use k42_shapes::Shape;
 use std::alloc::Global;
 
 /// Pages in one part, which all processors use.
@@ -49,6 +51,8 @@ pub fn copied(alloc: Global, pages: &PagesState) -> Result<PagesState, Memory>
 impl Layout for SharedPages {
     type Part = PagesState;
 
+    ghost shapes = { λ _. shared_and_spread };
+
     ghost tag_of = { λ _. 0 };
 
     ghost has_tag = { λ _ tag. tag == 0 };
@@ -65,6 +69,14 @@ impl Layout for SharedPages {
 
     fn tag(&self) -> u32 {
         0
+    }
+
+    fn live(&self) -> u32 {
+        2
+    }
+
+    fn shape(&self) -> Shape {
+        Shape::One
     }
 
     fn with_tag(&self, _tag: u32) -> Self {
@@ -134,6 +146,10 @@ impl Layout for SharedPages {
     ghost swaps = { λ _ pages known number. refl };
 
     ghost asks = { λ _. refl };
+
+    ghost alike = { λ _ other same. refl };
+
+    ghost few = { λ _. omega arith };
 
     ghost agrees = { λ _ other same tags. record {
       ways = refl;

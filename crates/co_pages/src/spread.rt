@@ -1,5 +1,7 @@
 //! The layout of pages that keeps each page in the cell of its number.
 ghost use Rattle.std.specs.Prelude.{◌≡◌, ◌==◌, IfOk, OnOk, OnErr, refl, map};
+ghost use Rattle.std.proofs.Common.{arith};
+ghost use Rattle.k42_shapes.specs.Shapes.{shared_and_spread};
 ghost use Rattle.k42_kinds.specs.declared.entry.Act.TheVariants.{Swap};
 ghost use Rattle.k42_kinds.specs.declared.entry.To.TheVariants as tos;
 ghost use Rattle.k42_kinds.specs.declared.operation.LayoutName.TheVariants as layouts;
@@ -17,6 +19,7 @@ use k42_kinds::{
     Act, Kind, Layout, LayoutName, Op, Page, PagesState, Reach, Reply, Text, To, step_pages,
 };
 use k42_memory::Memory;
+use k42_shapes::Shape;
 use std::alloc::Global;
 
 /// Pages that are spread over a cell for each processor, by their numbers.
@@ -117,6 +120,8 @@ fn clean(parts: &mut [Places])
 impl Layout for SpreadPages {
     type Part = Places;
 
+    ghost shapes = { λ _. shared_and_spread };
+
     ghost tag_of = { λ _. 1 };
 
     ghost has_tag = { λ _ tag. tag == 1 };
@@ -133,6 +138,14 @@ impl Layout for SpreadPages {
 
     fn tag(&self) -> u32 {
         1
+    }
+
+    fn live(&self) -> u32 {
+        2
+    }
+
+    fn shape(&self) -> Shape {
+        Shape::Each
     }
 
     fn with_tag(&self, _tag: u32) -> Self {
@@ -222,6 +235,10 @@ impl Layout for SpreadPages {
     ghost swaps = { λ _ pages known number. refl };
 
     ghost asks = { λ _. refl };
+
+    ghost alike = { λ _ other same. refl };
+
+    ghost few = { λ _. omega arith };
 
     ghost agrees = { λ _ other same tags. record {
       ways = refl;

@@ -75,16 +75,18 @@ shows_naming s beside naming table shows = record {
 
 -- the object is in the same row, of which no more is kept than was
 pub record IsSameRow (k l : Object) : Type 0 where
+  pub shapes : l.shapes ≡ k.shapes
   pub layout : l.layout ≡ k.layout
   pub incarnation : l.incarnation ≡ k.incarnation
   pub complete : l.complete ≡ k.complete
   pub freed : k.freed ≤ l.freed
 
 pub same_row : (k : Object) → IsSameRow k k
-same_row k = record { layout = refl; incarnation = refl; complete = refl; freed = le_refl k.freed }
+same_row k = record { shapes = refl; layout = refl; incarnation = refl; complete = refl; freed = le_refl k.freed }
 
 -- what is true of rows that were handed on, and freed, stays
 pub record GoesOn {L O R : Type 0} (s t : Joined L O R) : Type 0 where
+  pub shapes : (o : ℕ) → (object_at t.phases o).shapes ≡ (object_at s.phases o).shapes
   pub old : (row : Row) → IsOld s.phases row → IsOld t.phases row
   pub freed : (o : ℕ) → (object_at s.phases o).freed ≤ (object_at t.phases o).freed
 
@@ -147,7 +149,7 @@ module _ {L O R : Type 0} (s : Joined L O R) (objects : List Object) (visitors :
         (rw same.incarnation old.0, λ done. rw same.incarnation (old.1 (sym same.complete ∙ done)))
 
     pub same_on : GoesOn s t
-    same_on = record { old = old_stays; freed = λ o. (rows.each o).freed }
+    same_on = record { shapes = λ o. (rows.each o).shapes; old = old_stays; freed = λ o. (rows.each o).freed }
 
     pub same_left : {P : Type 0} (x : PassView P O R) → IsUndisturbed s t x
     same_left x = record {
@@ -175,6 +177,7 @@ module _ {L O R : Type 0} (s : Joined L O R) (objects : List Object) (visitors :
     phases_stay : GoesOn s t → visitor_at t.phases x.number ≡ visitor_at s.phases x.number → KnowsPhases s.phases x → KnowsPhases t.phases x
     phases_stay on other knows = record {
       visitor = other ∙ knows.visitor;
+      shapes = λ o. knows.shapes o ∙ sym (on.shapes o);
       layout = λ l o i e inside. left.place o i inside ∙ knows.layout l o i e inside;
       learned = knows.learned;
       swap = swap_stays s t x left.swap knows.swap;
@@ -363,6 +366,7 @@ module _ {S L P O R : Type 0} (F : Layouts S L P O R) (laws : AreLaws F) (declar
       r.beside.row_seat (length-set r.state.phases.callers v.number visitor_gone) before.names
       (record {
         visitor = get_or-set_same r.state.phases.callers v.number visitor_gone fresh_visitor before.there;
+        shapes = λ q. before.phases.shapes q ∙ sym (on.shapes q);
         layout = learns.layout_is;
         learned = learns.learned;
         swap = record { turned = swap.turned; layout_begun = swap.layout_begun; begun = swap.begun; next = swap.next };

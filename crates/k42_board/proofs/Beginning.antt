@@ -21,7 +21,7 @@ use Rattle.k42_board.specs.Phases.{is_served, KnowsSwap, KnowsRows}
 use Rattle.k42_board.specs.Rule.{KnowsPass, Rule, Ruled}
 use Rattle.k42_board.specs.Seen.{IsSeatOf}
 use Rattle.k42_board.specs.Log.{took}
-use Rattle.k42_board.specs.Views.{pass_in}
+use Rattle.k42_board.specs.Views.{pass_in, live_at}
 use Rattle.k42_board.specs.Steps.{Seated, Tells, TellsWith}
 use Rattle.k42_board.specs.Tabling.{ObjectFound, word_object, MayBegin, is_over_in, stage_begun, begun_view}
 use Rattle.k42_board.specs.Values.{has_bit, answer_in}
@@ -32,8 +32,8 @@ use Rattle.k42_board.specs.declared.view.View.{View}
 use Rattle.k42_board.specs.declared.view.View.TheVariants.{Crew}
 use Rattle.k42_board.proofs.AtTables.{visited, Steps, AreSameRows, same_on, same_left, same_visit, visits, rows_stay, own_after, rows_told, of_object, object_written, rows_same, few_entries, written_shows}
 use Rattle.k42_board.proofs.Fields.{IsRead, object_fits, swap_set}
-use Rattle.k42_board.proofs.Looking.{object_shown, object_is_read}
-use Rattle.k42_board.proofs.Knocking.{word_object_is, object_finds}
+use Rattle.k42_board.proofs.Looking.{object_shown, object_is_read, word_object_is}
+use Rattle.k42_board.proofs.Knocking.{object_finds}
 use Rattle.std.specs.Int.RustNames.{bit_or}
 use Rattle.k42_joined.specs.Plain.{Kept}
 use Rattle.k42_joined.specs.State.{kept_of, nothing_kept}
@@ -43,7 +43,7 @@ use Rattle.gen_core.specs.Events.{is_free}
 use Rattle.phase_core.specs.declared.caller.SwapAt.{SwapAt}
 use Rattle.phase_core.specs.declared.caller.SwapAt.TheVariants.{Idle}
 use Rattle.k42_board.proofs.Logged.{logged_moves}
-use Rattle.k42_board.proofs.Moves.{Moves}
+use Rattle.k42_board.proofs.Moves.{Moves, Finds}
 use Rattle.k42_board.proofs.OnePass.{with_pass, known}
 use Rattle.k42_board.proofs.Retold.{retold, retold_allowed_with}
 
@@ -82,7 +82,7 @@ module _ {S L P O R : Type 0} (F : Layouts S L P O R) (laws : AreLaws F) (declar
   k' = record k { swap = true }
 
   abbrev x : Visitor
-  x = stage_begun o found v.visitor
+  x = stage_begun (live_at v o) o found v.visitor
 
   abbrev kept' : Kept R
   kept' = record (kept_of r.state c) { begun = Some o; found = answer_found k }
@@ -111,11 +111,14 @@ module _ {S L P O R : Type 0} (F : Layouts S L P O R) (laws : AreLaws F) (declar
   swap_is : v.visitor.swap ≡ Idle
   swap_is = idle_is v.visitor.swap may.no_swap
 
-  over_is : is_over_in found ≡ is_over k
-  over_is = rw (is_read.layout, is_read.incarnation) refl
+  live_is : live_at v o ≡ length k.shapes
+  live_is = ap length (knows.phases.shapes o)
 
-  answer_is : answer_in {R = R} found ≡ answer_found k
-  answer_is = rw (is_read.layout, is_read.incarnation, is_read.swap, is_read.complete) refl
+  over_is : is_over_in (live_at v o) found ≡ is_over k
+  over_is = rw (live_is, is_read.layout, is_read.incarnation) refl
+
+  answer_is : answer_in {R = R} (live_at v o) found ≡ answer_found k
+  answer_is = rw (live_is, is_read.layout, is_read.incarnation, is_read.swap, is_read.complete) refl
 
   abbrev phases_if : Bool → Visitor → Bool → Phases
   phases_if b y over = cond b s (record s { objects = objects; callers = set s.callers c (at_stage y (begun_as o over)) })
@@ -123,7 +126,7 @@ module _ {S L P O R : Type 0} (F : Layouts S L P O R) (laws : AreLaws F) (declar
   with_swap : k.swap ≡ true → objects ≡ s.objects
   with_swap e = ap (λ b. set s.objects o (record k { swap = b })) (sym e) ∙ set-get_or s.objects o fresh_object
 
-  by_swap : (b : Bool) → k.swap ≡ b → phases_if b v.visitor (is_over_in found) ≡ record s { objects = objects; callers = set s.callers c (cond b v.visitor (at_stage v.visitor (begun_as o (is_over_in found)))) }
+  by_swap : (b : Bool) → k.swap ≡ b → phases_if b v.visitor (is_over_in (live_at v o) found) ≡ record s { objects = objects; callers = set s.callers c (cond b v.visitor (at_stage v.visitor (begun_as o (is_over_in (live_at v o) found)))) }
   by_swap true e =
       ap (λ (z : List Object × List Visitor). record s { objects = z.0; callers = z.1 })
       (λ j. (sym (with_swap e) j, (sym (set-get_or s.callers c _) ∙ ap (set s.callers c) knows.phases.visitor) j))
@@ -133,7 +136,7 @@ module _ {S L P O R : Type 0} (F : Layouts S L P O R) (laws : AreLaws F) (declar
   phases_is =
       ap (λ (z : Visitor × Bool). phases_if k.swap z.0 z.1) (λ j. (knows.phases.visitor j, sym over_is j))
       ∙ by_swap k.swap refl
-      ∙ ap (λ b. record s { objects = objects; callers = set s.callers c (cond b v.visitor (at_stage v.visitor (begun_as o (is_over_in found)))) }) (sym is_read.swap)
+      ∙ ap (λ b. record s { objects = objects; callers = set s.callers c (cond b v.visitor (at_stage v.visitor (begun_as o (is_over_in (live_at v o) found)))) }) (sym is_read.swap)
 
   effect_is : after ≡ effect r.state (AtPhases (Begin c o))
   effect_is = ap (λ (z : Phases). record r.state { phases = z; kept = kept }) (sym phases_is)
@@ -149,7 +152,7 @@ module _ {S L P O R : Type 0} (F : Layouts S L P O R) (laws : AreLaws F) (declar
   }
 
   rows : AreSameRows r.state objects (set s.callers c x) kept
-  rows = rows_same r.state o k' (set s.callers c x) kept there (record { layout = refl; incarnation = refl; complete = refl; freed = le_refl k.freed })
+  rows = rows_same r.state o k' (set s.callers c x) kept there (record { shapes = refl; layout = refl; incarnation = refl; complete = refl; freed = le_refl k.freed })
 
   c_kept : c < length r.state.kept
   c_kept = let many = r.sound.cells.locks.many.kept in let lt = knows.there in omega (arith, many, lt)
@@ -163,7 +166,7 @@ module _ {S L P O R : Type 0} (F : Layouts S L P O R) (laws : AreLaws F) (declar
     pub unmoved : is_moved y.swap ≡ false
     pub unturned : (l : Object) → is_turned y.swap l ≡ false
 
-  begun_is : (b : Bool) → IsBegun (cond b v.visitor (at_stage v.visitor (begun_as o (is_over_in found))))
+  begun_is : (b : Bool) → IsBegun (cond b v.visitor (at_stage v.visitor (begun_as o (is_over_in (live_at v o) found))))
   begun_is true = record {
     place = refl;
     noted = refl;
@@ -176,9 +179,9 @@ module _ {S L P O R : Type 0} (F : Layouts S L P O R) (laws : AreLaws F) (declar
     place = refl;
     noted = refl;
     freeing = refl;
-    named = λ q named. begun_names o q (is_over_in found) named;
-    unmoved = begun_unmoved o (is_over_in found);
-    unturned = λ l. begun_unturned o (is_over_in found) l;
+    named = λ q named. begun_names o q (is_over_in (live_at v o) found) named;
+    unmoved = begun_unmoved o (is_over_in (live_at v o) found);
+    unturned = λ l. begun_unturned o (is_over_in (live_at v o) found) l;
   }
 
   x_is : IsBegun x
@@ -201,16 +204,17 @@ module _ {S L P O R : Type 0} (F : Layouts S L P O R) (laws : AreLaws F) (declar
       let old = rows_stay r.state after v (same_on r.state objects (set s.callers c x) kept rows)
       (same_left r.state objects (set s.callers c x) kept rows v).spans knows.phases.rows in
       rows_told F.tag_of r.state objects (set s.callers c x) kept r.beside id v knows
-      x (Some (record { object = o; word = found })) (answer_in found) v.abandoned v.turned v.layout v.handed v.rows
+      x (Some (record { object = o; word = found })) (answer_in (live_at v o) found) v.abandoned v.turned v.layout v.handed v.rows
       after.phases x_is.noted x_is.freeing refl old.old old
 
   pass_after : KnowsPass F.tag_of after r.beside id (begun_view o found v)
   pass_after =
       own_after F.tag_of r.state objects (set s.callers c x) kept r.beside id v knows
-      x (Some (record { object = o; word = found })) (answer_in found) v.abandoned v.turned v.layout v.handed v.rows
+      x (Some (record { object = o; word = found })) (answer_in (live_at v o) found) v.abandoned v.turned v.layout v.handed v.rows
       r.beside.row_seat (length-set s.callers c x) knows.names
       (record {
         visitor = get_or-set_same s.callers c x _ knows.there;
+        shapes = λ q. knows.phases.shapes q ∙ sym (rows.each q).shapes;
         layout = λ l q i e inside. (rows.each q).layout ∙ knows.phases.layout l q i e (subst (λ z. IsInside z q i) x_is.place inside);
         learned = λ served. knows.phases.learned (subst (λ z. is_served z ≡ true) x_is.place served);
         swap = knows_swap;
@@ -257,11 +261,11 @@ module _ {S L P O R : Type 0} (F : Layouts S L P O R) (laws : AreLaws F) (declar
   begin_same found = ap (λ at. begin_at at found (pass_in me.0)) (λ j. (sym there j, sym (word_object_is o word there) j))
 
   pub begin_allowed : {callers : ℕ} (slots : ℕ) (step : Step (Slot P O R))
-      → Allows (Ruled F declared callers) slots id me word (λ n. bit_or n 16777216) (TellsWith (begin_at (word, word_object word)) ObjectFound step me)
+      → Allows (Ruled F declared callers) slots id me word (λ n. bit_or n 16777216) (TellsWith (begin_at (word, word_object word)) (ObjectFound (word_object word)) step me)
   begin_allowed slots step =
-      retold_allowed_with (begin_at (object_word o, o)) (begin_at (word, word_object word)) begin_same (begin_moves F laws declared id o (pass_in me.0) may) ObjectFound
-      (object_finds F laws declared id o (pass_in me.0) may.there) me is word there slots step
+      retold_allowed_with (begin_at (object_word o, o)) (begin_at (word, word_object word)) begin_same (begin_moves F laws declared id o (pass_in me.0) may) (ObjectFound (word_object word))
+      (subst (λ q. Finds F declared (object_word o) (ObjectFound q) id (pass_in me.0)) (sym (word_object_is o word there)) (object_finds F laws declared id o (pass_in me.0) may.there)) me is word there slots step
 
-  pub begin_told : (step : Step (Slot P O R)) (found : ℕ) (after : Seated P O R) → TellsWith (begin_at (word, word_object word)) ObjectFound step me found after
+  pub begin_told : (step : Step (Slot P O R)) (found : ℕ) (after : Seated P O R) → TellsWith (begin_at (word, word_object word)) (ObjectFound (word_object word)) step me found after
       → Tells (begin_at (object_word o, o)) step me found after
   begin_told step found after told = retold (begin_at (object_word o, o)) (begin_at (word, word_object word)) begin_same me after is step found told.0

@@ -4,6 +4,7 @@ use Rattle.std.specs.Int.RustNames.{bit_or}
 use Rattle.std.proofs.lemmas.Option.{slice_get-get_or}
 use mathlib.Core.Option.{some}
 use lib.ListN.{get_elem?}
+use Rattle.k42_shapes.specs.declared.shape.Shape.{Shape}
 use Rattle.atomic_table.specs.Table.{State, Step, Allows}
 use Rattle.gen_core.specs.Events.{is_idle}
 use Rattle.gen_core.specs.Plain.{Caller}
@@ -48,10 +49,10 @@ record IsDrained (swap : SwapAt) : Type 0 where
   pub named : named_by swap ≡ Some (object_named swap)
   pub unmoved : is_moved swap ≡ false
   pub unturned : (k : Object) → is_turned swap k ≡ false
-  pub clear : (b : Bits) (layout incarnation : ℕ) → BitsFollow b layout incarnation swap → AreClear b
+  pub clear : (b : Bits) (shapes : List Shape) (layout incarnation : ℕ) → BitsFollow b shapes layout incarnation swap → AreClear b
 
 drained_is : (swap : SwapAt) → is_drained swap ≡ true → IsDrained swap
-drained_is (Drained o) e = record { named = refl; unmoved = refl; unturned = λ k. refl; clear = λ b layout incarnation is. is.0 }
+drained_is (Drained o) e = record { named = refl; unmoved = refl; unturned = λ k. refl; clear = λ b shapes layout incarnation is. is.0 }
 drained_is swap e = absurd (cc)
 
 module _ {S L P O R : Type 0} (F : Layouts S L P O R) (laws : AreLaws F) (declared : List L)
@@ -97,7 +98,7 @@ module _ {S L P O R : Type 0} (F : Layouts S L P O R) (laws : AreLaws F) (declar
   }
 
   staged : IsStaged r.state o k'
-  staged = stays_staged r.state o k' (record { layout = refl; incarnation = refl; freed = refl; complete = λ done. done })
+  staged = stays_staged r.state o k' (record { shapes = refl; layout = refl; incarnation = refl; freed = refl; complete = λ done. done })
 
   abbrev after : Joined L O R
   after = visited r.state (set s.objects o k') (set s.callers c (at_stage v.visitor (Blocking o))) r.state.kept
@@ -134,7 +135,7 @@ module _ {S L P O R : Type 0} (F : Layouts S L P O R) (laws : AreLaws F) (declar
       (object_written table.words s.objects o k k' (bit_or found 33554432) r.shows.many_words r.shows.few_objects
       (few_entries F laws declared table r id v at) small (slice_get-get_or s.objects o fresh_object lt) refl refl
       (block_set k found (object_fits s r.sound.phases o lt)
-      (stage.clear _ _ _ (bits F laws declared table r id v at stage.named)).0
+      (stage.clear _ _ _ _ (bits F laws declared table r id v at stage.named)).0
       (object_shown F laws declared table r id v at o lt))
       r.shows.objects))
       pass_after

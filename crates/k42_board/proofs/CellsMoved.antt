@@ -102,6 +102,7 @@ module _ {P O R : Type 0} (v : PassView P O R) (taker : Caller O R) (found : Opt
   pub phases_stay : (p : Phases) → KnowsPhases p v → KnowsPhases p (re_noted v taker found abandoned handed notes out untold)
   phases_stay p k = record {
     visitor = k.visitor;
+    shapes = k.shapes;
     layout = k.layout;
     learned = k.learned;
     swap = record { turned = k.swap.turned; layout_begun = k.swap.layout_begun; begun = k.swap.begun; next = k.swap.next };

@@ -1,6 +1,6 @@
 -- Who touches a cell by its view may touch it in every state that the table shows.
 use Rattle.std.proofs.Common.{◌≡◌, ◌⊎◌, ℕ, zero, suc, ◌+◌, ◌<◌, ◌≤◌, Bool, true, false, ◌||◌, ◌&&◌, eqb, leb, ltb, List, [], ◌∷◌, Option, Some, None, length, refl, sym, ap, ◌∙◌, subst, inl, inr, ⊎_elim, arith}
-use Rattle.std.proofs.lemmas.Bool.{and_parts, eqb-true, eq-eqb, leb-true, ltb-true, or_left}
+use Rattle.std.proofs.lemmas.Bool.{and_parts, eqb-true, eq-eqb, leb-true, ltb-true, ne_eqb, or_left}
 use Rattle.std.proofs.lemmas.Bool.Decides.{nat_tests}
 use mathlib.Core.Option.{some}
 use lib.ListN.{get_elem?}
@@ -38,8 +38,8 @@ use Rattle.k42_board.specs.Rule.{KnowsPass, Rule}
 use Rattle.k42_board.specs.Cells.{Slot}
 use Rattle.k42_board.specs.Steps.{Always}
 use Rattle.k42_board.specs.Taking.{Touches, TouchesInside, TouchesMoved, TouchesFreed, TouchesOver}
-use Rattle.k42_board.specs.Values.{answer_in, incarnation_in}
-use Rattle.k42_board.specs.Views.{begun_of, word_begun, object_begun}
+use Rattle.k42_board.specs.Values.{incarnation_in}
+use Rattle.k42_board.specs.Views.{begun_of, word_begun, object_begun, answer_begun, live_at}
 use Rattle.k42_board.specs.declared.view.LastBegin.{LastBegin}
 use Rattle.k42_board.specs.declared.view.PassView.{PassView}
 use Rattle.k42_board.specs.declared.view.View.{View}
@@ -80,17 +80,17 @@ module _ (s : Phases) (sound : phases.IsSound s) (o : ℕ) (named : o < length s
   unsettled_by c there rows = ((visitor_known s sound c there).frees_alone.freeing o rows).3
 
 -- no Begin was answered where none was made
-nothing_begun : {R : Type 0} (answer : Answer R) → answer_in 0 ≡ Some answer → ⊥
-nothing_begun answer e = cc
+nothing_begun : {R : Type 0} (live : ℕ → ℕ) (answer : Answer R) → answer_begun live None ≡ Some answer → ⊥
+nothing_begun live answer e = cc
 
 one_of : (a b : Bool) → a || b ≡ true → (a ≡ true) ⊎ (b ≡ true)
 one_of true b e = inl refl
 one_of false b e = inr e
 
 -- a live object is not over
-not_over : (k : Object) (i : ℕ) → k.layout < 2 → k.incarnation < LAST_INCARNATION → is_over_in k i ≡ true → ⊥
+not_over : (k : Object) (i : ℕ) → k.layout < length k.shapes → k.incarnation < LAST_INCARNATION → is_over_in k i ≡ true → ⊥
 not_over k i alive next over =
-    let dead : eqb k.layout 2 ≡ false = grind (arith, nat_tests, alive) in
+    let dead : eqb k.layout (length k.shapes) ≡ false = ne_eqb k.layout (length k.shapes) (λ same. omega (arith, alive, same)) in
     let last : eqb k.incarnation LAST_INCARNATION ≡ false = grind (arith, nat_tests, next) in
     let none : is_over k ≡ false = rw (dead, last) refl in
     let is = (and_parts (is_over k) (eqb k.incarnation i) over).0 in cc
@@ -101,10 +101,10 @@ present_by k i over = sym (eqb-true k.incarnation i (and_parts (is_over k) (eqb 
 -- the answer tells that the object is over
 over_known : {R : Type 0} (k : Object) (i : ℕ) (answer : Answer R) → tells_over answer ≡ true → IsTrueOf k i answer → is_over_in k k.incarnation ≡ true
 over_known k i Spent tells is =
-    both (is_over k) (eqb k.incarnation k.incarnation) (or_right (eqb k.layout 2) (eqb k.incarnation LAST_INCARNATION) (eq-eqb k.incarnation LAST_INCARNATION is.1))
+    both (is_over k) (eqb k.incarnation k.incarnation) (or_right (eqb k.layout (length k.shapes)) (eqb k.incarnation LAST_INCARNATION) (eq-eqb k.incarnation LAST_INCARNATION is.1))
     (eq-eqb k.incarnation k.incarnation refl)
 over_known k i Gone tells is =
-    both (is_over k) (eqb k.incarnation k.incarnation) (or_left (eqb k.layout 2) (eqb k.incarnation LAST_INCARNATION) (eq-eqb k.layout 2 is.1))
+    both (is_over k) (eqb k.incarnation k.incarnation) (or_left (eqb k.layout (length k.shapes)) (eqb k.incarnation LAST_INCARNATION) (eq-eqb k.layout (length k.shapes) is.1))
     (eq-eqb k.incarnation k.incarnation refl)
 over_known k i answer tells is = absurd (cc)
 
@@ -250,7 +250,7 @@ module _ {S L P O R : Type 0} (F : Layouts S L P O R) (laws : AreLaws F) (declar
   touch_over : TouchesOver F.procs n v → MayTouch s c n
   touch_over is = go v.last refl where
     go : (last : Option LastBegin) → v.last ≡ last → MayTouch s c n
-    go None e = absurd (nothing_begun is.answer (ap (λ l. answer_in (word_begun l)) (sym e) ∙ knows.trace.found is.answer is.found))
+    go None e = absurd (nothing_begun (live_at v) is.answer (ap (λ l. answer_begun (live_at v) l) (sym e) ∙ knows.trace.found is.answer is.found))
     go (Some begin) e =
         let o : ℕ = object_begun v.last in let i : ℕ = incarnation_in (word_begun v.last) in
         let begun : begun_of v.last ≡ Some o = ap begun_of e ∙ ap (λ l. Some (object_begun l)) (sym e) in

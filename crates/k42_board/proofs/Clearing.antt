@@ -129,7 +129,7 @@ module _ {S L P O R : Type 0} (F : Layouts S L P O R) (laws : AreLaws F) (declar
     kept = set r.state.kept c kept'
 
     given_up : IsStaged r.state o u
-    given_up = stays_staged r.state o u (record { layout = refl; incarnation = refl; freed = refl; complete = λ done. done })
+    given_up = stays_staged r.state o u (record { shapes = refl; layout = refl; incarnation = refl; freed = refl; complete = λ done. done })
 
     may_give_up : IsPossible F declared r.state (AtPhases (Unblock c))
     may_give_up = record {
@@ -209,7 +209,7 @@ module _ {S L P O R : Type 0} (F : Layouts S L P O R) (laws : AreLaws F) (declar
     low = few F laws declared table r id v at is_end.named
 
     over : IsStaged r.state o l
-    over = stays_staged r.state o l (record { layout = refl; incarnation = refl; freed = refl; complete = λ done. absurd (cc) })
+    over = stays_staged r.state o l (record { shapes = refl; layout = refl; incarnation = refl; freed = refl; complete = λ done. absurd (cc) })
 
     may_end : IsPossible F declared r.state (AtPhases (Clear c))
     may_end = record {

@@ -71,6 +71,7 @@ module _ {L P O R : Type 0} (tag_of : L → ℕ) (s : Joined L O R) (turns : Tur
   phases_known : KnowsPhases s.phases w
   phases_known = record {
     visitor = k.phases.visitor;
+    shapes = k.phases.shapes;
     layout = k.phases.layout;
     learned = k.phases.learned;
     swap = record {
@@ -116,6 +117,7 @@ untold_known tag_of s beside id v k cells = record {
   generations = record { turn = k.generations.turn; graces = k.generations.graces; base = k.generations.base };
   phases = record {
     visitor = k.phases.visitor;
+    shapes = k.phases.shapes;
     layout = k.phases.layout;
     learned = k.phases.learned;
     swap = record {

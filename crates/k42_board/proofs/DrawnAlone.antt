@@ -35,8 +35,8 @@ use Rattle.k42_joined.proofs.Kept.{joined_keeps}
 use Rattle.k42_board.specs.Cells.{Slot, KnowsCells}
 use Rattle.k42_board.specs.Drawing.{MayDrawAlone, IsAnswerAlone, gives_up, entry_alone, alone_view}
 use Rattle.k42_board.specs.Rule.{KnowsPass, Rule}
-use Rattle.k42_board.specs.Values.{incarnation_in, answer_in}
-use Rattle.k42_board.specs.Views.{begun_of, object_begun, word_begun}
+use Rattle.k42_board.specs.Values.{incarnation_in}
+use Rattle.k42_board.specs.Views.{begun_of, object_begun, word_begun, answer_begun, live_at}
 use Rattle.k42_board.specs.Words.{role_word}
 use Rattle.k42_board.specs.declared.view.LastBegin.{LastBegin}
 use Rattle.k42_board.specs.declared.view.PassView.{PassView}
@@ -53,9 +53,9 @@ begun_some : (last : Option LastBegin) (o : ℕ) → begun_of last ≡ Some o �
 begun_some None o e = absurd (cc)
 begun_some (Some begin) o e = cc
 
-pub begun_found : {R : Type 0} (last : Option LastBegin) (answer : Answer R) → answer_in (word_begun last) ≡ Some answer → begun_of last ≡ Some (object_begun last)
-begun_found None answer e = absurd (cc)
-begun_found (Some begin) answer e = refl
+pub begun_found : {R : Type 0} (live : ℕ → ℕ) (last : Option LastBegin) (answer : Answer R) → answer_begun live last ≡ Some answer → begun_of last ≡ Some (object_begun last)
+begun_found live None answer e = absurd (cc)
+begun_found live (Some begin) answer e = refl
 
 -- a swap that is given up names its object, and was not turned over
 record GivesUp (swap : SwapAt) (turned : Bool) (k : Object) : Type 0 where
@@ -108,7 +108,7 @@ module _ {S L P O R : Type 0} (F : Layouts S L P O R) (laws : AreLaws F) (declar
 
   beside_busy : (number : ℕ) → v.found ≡ Some (Busy number) → IsBeside (Busy number)
   beside_busy number found =
-      let begun = begun_found v.last (Busy number) (k.trace.found (Busy number) found) in
+      let begun = begun_found (live_at v) v.last (Busy number) (k.trace.found (Busy number) found) in
       let kept_begun : (kept_of s c).begun ≡ Some (object_begun v.last) = ap (λ (z : Kept R). z.begun) k.trace.kept ∙ begun in
       let kept_found : (kept_of s c).found ≡ Some (Busy number) = ap (λ (z : Kept R). z.found) k.trace.kept ∙ found in
       let some_number = ((r.sound.answers c k.there).found (object_begun v.last) (Busy number) kept_begun kept_found).some number refl in

@@ -6,10 +6,13 @@ use Rattle.std.proofs.lemmas.Bool.{eqb-true, eq-eqb, cases_lt}
 use Rattle.std.proofs.lemmas.Option.{same_Some, slice_get-get_or}
 use mathlib.Core.Option.{some}
 use lib.ListN.{get_elem?}
+use Rattle.k42_shapes.specs.declared.shape.Shape.{Shape}
+use Rattle.k42_shapes.proofs.ShapeLaws.{few_cells}
 use Rattle.atomic_table.specs.Table.{State}
 use Rattle.gen_core.specs.Sound.{IsOfStep, generation_of, is_flipped}
 use Rattle.gen_core.specs.State as gens
-use Rattle.k42_kinds.specs.Rows.{Ways, part_at, changed_at, cells_of, row_moved, row_replied, IsWithin}
+use Rattle.k42_kinds.specs.Rows.{Ways, part_at, changed_at, row_moved, row_replied, IsWithin}
+use Rattle.k42_shapes.specs.Shapes.{cells_of}
 use Rattle.k42_kinds.specs.LayoutLaws.{StepsRow}
 use Rattle.k42_kinds.specs.declared.entry.Entry.{Entry}
 use Rattle.k42_kinds.specs.declared.entry.Reach.{Reach}
@@ -27,9 +30,9 @@ use Rattle.turn_core.specs.Names.{names, names_once}
 use Rattle.turn_core.specs.declared.event.TurnEvent.TheVariants.{Draw}
 use Rattle.k42_stamp.specs.Chains.{Chain, Row, parts_of}
 use Rattle.k42_stamp.specs.Laws.{AreLaws}
-use Rattle.k42_stamp.specs.Layouts.{Layouts}
+use Rattle.k42_stamp.specs.Layouts.{Layouts, shape_of}
 use Rattle.k42_stamp.specs.Parts.{reach_of}
-use Rattle.k42_stamp.proofs.PartsAfter.{parts_whole, parts_sized}
+use Rattle.k42_stamp.proofs.PartsAfter.{parts_whole, parts_sized, same_shape}
 use Rattle.k42_joined.specs.Drawing.{IsCall, newest_layout, first_cell}
 use Rattle.k42_joined.specs.Effects.{effect}
 use Rattle.k42_joined.specs.Event.{AtCells}
@@ -59,7 +62,7 @@ use Rattle.k42_board.proofs.DrawnParts.{as_noted, here, rows_here, due_noted, pa
 use Rattle.k42_board.proofs.Moves.{Moves}
 use Rattle.k42_board.proofs.Noted.{content_of, held_named, part_at_number}
 use Rattle.k42_board.proofs.OnePass.{with_pass, known}
-use Rattle.k42_board.proofs.RowCells.{row_once, row_some, place_in_row, of_parity, some_part, no_part, changed_here, changed_else, made_row, part_within, due_self, due_value, few_cells_of}
+use Rattle.k42_board.proofs.RowCells.{row_once, row_some, place_in_row, of_parity, some_part, no_part, changed_here, changed_else, made_row, part_within, due_self, due_value}
 
 inside_self : (place : Place) (o i : ℕ) → IsInside place o i → (places.object_of place ≡ o) × (row_of place ≡ i)
 inside_self (Missed q j) o i is = is
@@ -207,10 +210,13 @@ module _ {S L P O R : Type 0} (F : Layouts S L P O R) (laws : AreLaws F) (agree 
   same_tag : F.tag_of may.layout ≡ F.tag_of row.layout
   same_tag = sym (k.phases.layout (F.tag_of may.layout) o i may.tagged inside) ∙ sym tagged
 
+  same_shapes : shape_of F may.layout ≡ shape_of F row.layout
+  same_shapes = same_shape F laws may.layout row.layout (may.same ∙ sym kind) same_tag
+
   takes : IsTrue ((F.object_of row.layout).takes op)
   takes = subst (λ z. IsTrue (z.takes op)) (may.same ∙ sym kind) may.takes
 
-  sized : length parts ≡ cells_of (F.tag_of row.layout) procs
+  sized : length parts ≡ cells_of (shape_of F row.layout) procs
   sized = parts_sized F laws may.declaration o (history_in s o) x was.fits
 
   proc_of_is : F.proc_of c ≡ v.turn.proc
@@ -228,7 +234,7 @@ module _ {S L P O R : Type 0} (F : Layouts S L P O R) (laws : AreLaws F) (agree 
   cells_are : cells ≡ cells_reached procs o i q
   cells_are = may.named ∙ (λ j. cells_reached procs (sym self.0 j) (sym self.1 j) (q_is j))
 
-  within : IsWithin (cells_of (F.tag_of row.layout) procs) q
+  within : IsWithin (cells_of (shape_of F row.layout) procs) q
   within = laws.reaches row.layout v.turn.proc op was.fits.row.known proc_there takes
 
   steps : StepsRow (F.object_of row.layout) ways (F.Whole row.layout procs) parts op q
@@ -237,7 +243,7 @@ module _ {S L P O R : Type 0} (F : Layouts S L P O R) (laws : AreLaws F) (agree 
   few_parts : (ps : List P) → F.Whole row.layout procs ps → length ps ≤ procs
   few_parts ps whole =
       let long = (laws.stands row.layout ps was.fits.row.known whole).sized in
-      let most = few_cells_of (F.tag_of row.layout) procs laws.some in omega (arith, long, most)
+      let most = few_cells (shape_of F row.layout) procs laws.some in omega (arith, long, most)
 
   noted : (n : ℕ) → names cells n ≡ true → names (cells_noted v.notes) n ≡ true
   noted n e = held_named v.notes contents may.held n e
@@ -331,22 +337,22 @@ module _ {S L P O R : Type 0} (F : Layouts S L P O R) (laws : AreLaws F) (agree 
     all_named : (p : ℕ) → p < procs → names cells (cell_of o i p) ≡ true
     all_named p lt = ap (λ xs. names xs (cell_of o i p)) all ∙ row_names procs o i p lt
 
-    all_due : parts_due ways procs v.notes o i (F.tag_of row.layout) ≡ parts
+    all_due : parts_due ways procs v.notes o i (shape_of F row.layout) ≡ parts
     all_due =
-        made_row (part_due ways procs v.notes o i) (cells_of (F.tag_of row.layout) procs) parts sized
+        made_row (part_due ways procs v.notes o i) (cells_of (shape_of F row.layout) procs) parts sized
         (λ p d there.
         let low = part_within parts p d there in
-        let lt : p < procs = let long = sized in let most = few_cells_of (F.tag_of row.layout) procs laws.some in omega (arith, low, long, most) in
+        let lt : p < procs = let long = sized in let most = few_cells (shape_of F row.layout) procs laws.some in omega (arith, low, long, most) in
         value p d lt (all_named p lt) there)
 
     reply_all : reply ≡ ways.row_reply parts op
     reply_all =
-        subst (λ (z : Ways S P O R × ℕ). reply ≡ z.0.row_reply (parts_due z.0 procs v.notes o i z.1) op) (λ j. (same_ways j, same_tag j)) stepped.0
+        subst (λ (z : Ways S P O R × Shape). reply ≡ z.0.row_reply (parts_due z.0 procs v.notes o i z.1) op) (λ j. (same_ways j, same_shapes j)) stepped.0
         ∙ ap (λ ps. ways.row_reply ps op) all_due
 
     each_all : HaveParts (ways.row_after parts op) contents
     each_all place content e =
-        subst (λ (z : Ways S P O R × ℕ). content.part ≡ part_at (z.0.row_after (parts_due z.0 procs v.notes o i z.1) op) place) (λ j. (same_ways j, same_tag j)) (stepped.1 place content e)
+        subst (λ (z : Ways S P O R × Shape). content.part ≡ part_at (z.0.row_after (parts_due z.0 procs v.notes o i z.1) op) place) (λ j. (same_ways j, same_shapes j)) (stepped.1 place content e)
         ∙ ap (λ ps. part_at (ways.row_after ps op) place) all_due
 
     once_all : names_once cells ≡ true
@@ -390,8 +396,8 @@ module _ {S L P O R : Type 0} (F : Layouts S L P O R) (laws : AreLaws F) (agree 
 
   by_reach : (reach : Reach) → q ≡ reach → Shown reach
   by_reach (One p) e =
-      let low : p < cells_of (F.tag_of row.layout) procs = subst (IsWithin (cells_of (F.tag_of row.layout) procs)) e within in
-      let long = sized in let most = few_cells_of (F.tag_of row.layout) procs laws.some in
+      let low : p < cells_of (shape_of F row.layout) procs = subst (IsWithin (cells_of (shape_of F row.layout) procs)) e within in
+      let long = sized in let most = few_cells (shape_of F row.layout) procs laws.some in
       shown_one p (omega (arith, low, long)) (omega (arith, low, most)) (cells_are ∙ ap (cells_reached procs o i) e) (stepped_at (One p) e)
   by_reach All e =
       shown_all (cells_are ∙ ap (cells_reached procs o i) e) (subst (λ z. F.Whole row.layout procs (row_moved ways parts op z)) e steps.whole) (stepped_at All e)

@@ -36,7 +36,7 @@ use Rattle.k42_board.specs.Drawing.{MayDrawMark, entry_mark, draws_at, part_in}
 use Rattle.k42_board.specs.Parts.{HasDue}
 use Rattle.k42_board.specs.Rule.{KnowsPass, Rule}
 use Rattle.k42_board.specs.Values.{incarnation_in}
-use Rattle.k42_board.specs.Views.{object_begun, word_begun}
+use Rattle.k42_board.specs.Views.{object_begun, word_begun, live_at}
 use Rattle.k42_board.specs.Words.{lock_word}
 use Rattle.k42_board.specs.declared.cell.Content.{Content}
 use Rattle.k42_board.specs.declared.view.PassView.{PassView}
@@ -94,7 +94,7 @@ module _ {S L P O R : Type 0} (F : Layouts S L P O R) (laws : AreLaws F) (declar
   k = known F declared table r id v at
 
   begun : (kept_of s c).begun ≡ Some o
-  begun = ap (λ (z : Kept R). z.begun) k.trace.kept ∙ begun_found v.last answer (k.trace.found answer may.found)
+  begun = ap (λ (z : Kept R). z.begun) k.trace.kept ∙ begun_found (live_at v) v.last answer (k.trace.found answer may.found)
 
   found : (kept_of s c).found ≡ Some answer
   found = ap (λ (z : Kept R). z.found) k.trace.kept ∙ may.found

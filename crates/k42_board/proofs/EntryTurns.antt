@@ -58,7 +58,7 @@ pub record IsNext (procs : ℕ) (swap : SwapAt) : Type 0 where
   pub unmoved : is_moved swap ≡ false
   pub on_named : named_by (after_entry procs swap) ≡ Some (object_named swap)
   pub on_unmoved : is_moved (after_entry procs swap) ≡ false
-  pub turned : (k : Object) → BitsFollow (bits_of k) k.layout k.incarnation swap → is_turned swap k ≡ is_turned (after_entry procs swap) k
+  pub turned : (k : Object) → BitsFollow (bits_of k) k.shapes k.layout k.incarnation swap → is_turned swap k ≡ is_turned (after_entry procs swap) k
 
 is_next : (procs : ℕ) (swap : SwapAt) (p : ℕ) → next_entry swap ≡ Some p → IsNext procs swap
 is_next procs (Begun o) p e = record {
@@ -205,7 +205,7 @@ module _ {S L P O R : Type 0} (F : Layouts S L P O R) (laws : AreLaws F) (declar
       ∙ event_is.effect_is
 
   stays : StaysInRow k k'
-  stays = record { layout = refl; incarnation = refl; freed = refl; complete = λ done. done }
+  stays = record { shapes = refl; layout = refl; incarnation = refl; freed = refl; complete = λ done. done }
 
   staged : IsStaged r.state o k'
   staged = stays_staged r.state o k' stays

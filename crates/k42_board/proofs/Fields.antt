@@ -1,5 +1,5 @@
 -- What is read of a word is what it was made of.
-use Rattle.std.proofs.Common.{◌≡◌, ℕ, zero, suc, ◌+◌, ◌-◌, ◌*◌, ◌/◌, ◌%◌, ◌^◌, ◌<◌, ◌≤◌, Bool, true, false, cond, eqb, length, sym, refl, ap, ◌∙◌, subst, ⊎_elim, arith}
+use Rattle.std.proofs.Common.{◌≡◌, ℕ, zero, suc, ◌+◌, ◌-◌, ◌*◌, ◌/◌, ◌%◌, ◌^◌, ◌<◌, ◌≤◌, Bool, true, false, eqb, length, sym, refl, ap, ◌∙◌, subst, ⊎_elim, arith, List}
 use Rattle.std.specs.Bool.{MatchBool}
 use Rattle.std.proofs.lemmas.Nat.Bits.{bit_at_lowest, bit_at-suc}
 use Rattle.std.proofs.Math.Nat.{pow-suc}
@@ -9,6 +9,9 @@ use Rattle.std.specs.Int.RustNames.{bit_or, bit_and}
 use lib.Bits.{or_step, or_zero_r, and_mask, and_block}
 use Rattle.std.proofs.lemmas.List.Sums.{count_by-le-length}
 use Rattle.std.proofs.lemmas.Option.{slice_get-get_or}
+use Rattle.k42_shapes.specs.declared.shape.Shape.{Shape}
+use Rattle.k42_shapes.specs.Shapes.{shape_at, IsKnownTag}
+use Rattle.k42_shapes.proofs.ShapeLaws.{cell_few}
 use Rattle.k42_limits.specs.declared.TheConstants.{LAST_INCARNATION}
 use Rattle.phase_core.specs.Effects.{root_of, counted_in, counted_out, unblocked, cleared}
 use Rattle.phase_core.specs.Objects.{IsMediator, IsOpen, IsEntry, counts_at}
@@ -33,7 +36,7 @@ bit_is false = refl
 -- the fields of an object have room in its word
 pub record Fits (k : Object) : Type 0 where
   pub count : k.count ≤ 16
-  pub layout : k.layout ≤ 2
+  pub layout : k.layout < 16
   pub incarnation : k.incarnation ≤ LAST_INCARNATION
 
 pub record IsRead (k : Object) (word : ℕ) : Type 0 where
@@ -59,13 +62,13 @@ object_read k word fits is =
       layout = omega (arith, is, a, b, c, d, n, l);
       incarnation = omega (arith, is, a, b, c, d, n, l);
     } where
-      swap_is : bit k.swap ≤ 1 → bit k.block ≤ 1 → bit k.moving ≤ 1 → bit k.complete ≤ 1 → k.count ≤ 16 → k.layout ≤ 2 → word / 2 ^ 24 % 2 ≡ bit k.swap
+      swap_is : bit k.swap ≤ 1 → bit k.block ≤ 1 → bit k.moving ≤ 1 → bit k.complete ≤ 1 → k.count ≤ 16 → k.layout < 16 → word / 2 ^ 24 % 2 ≡ bit k.swap
       swap_is a b c d n l = omega (arith, is, a, b, c, d, n, l)
 
-      block_is : bit k.swap ≤ 1 → bit k.block ≤ 1 → bit k.moving ≤ 1 → bit k.complete ≤ 1 → k.count ≤ 16 → k.layout ≤ 2 → word / 2 ^ 25 % 2 ≡ bit k.block
+      block_is : bit k.swap ≤ 1 → bit k.block ≤ 1 → bit k.moving ≤ 1 → bit k.complete ≤ 1 → k.count ≤ 16 → k.layout < 16 → word / 2 ^ 25 % 2 ≡ bit k.block
       block_is a b c d n l = omega (arith, is, a, b, c, d, n, l)
 
-      complete_is : bit k.swap ≤ 1 → bit k.block ≤ 1 → bit k.moving ≤ 1 → bit k.complete ≤ 1 → k.count ≤ 16 → k.layout ≤ 2 → word / 2 ^ 27 % 2 ≡ bit k.complete
+      complete_is : bit k.swap ≤ 1 → bit k.block ≤ 1 → bit k.moving ≤ 1 → bit k.complete ≤ 1 → k.count ≤ 16 → k.layout < 16 → word / 2 ^ 27 % 2 ≡ bit k.complete
       complete_is a b c d n l = omega (arith, is, a, b, c, d, n, l)
 
 -- the word of one that counts one caller more or less
@@ -115,7 +118,7 @@ swap_set k word fits is =
     let c : bit k.moving ≤ 1 = bit_small k.moving in
     let d : bit k.complete ≤ 1 = bit_small k.complete in
     by_swap k.swap refl b c d fits.count fits.layout where
-      by_swap : (a : Bool) → k.swap ≡ a → bit k.block ≤ 1 → bit k.moving ≤ 1 → bit k.complete ≤ 1 → k.count ≤ 16 → k.layout ≤ 2
+      by_swap : (a : Bool) → k.swap ≡ a → bit k.block ≤ 1 → bit k.moving ≤ 1 → bit k.complete ≤ 1 → k.count ≤ 16 → k.layout < 16
           → bit_or word 16777216 ≡ object_value (record k { swap = true })
       by_swap true e b c d n l =
           let one : bit k.swap ≡ 1 = ap bit e in
@@ -135,7 +138,7 @@ block_set k word fits e is =
 -- the fields of an entry have room in its word
 pub record EntryFits (e : LocalEntry) : Type 0 where
   pub tag : e.tag ≤ 2
-  pub layout : e.layout ≤ 2
+  pub layout : e.layout < 16
   pub cell : e.cell < 8
 
 pub entry_read : (e : LocalEntry) (word : ℕ) → EntryFits e → word ≡ local_value e → entry_in word ≡ e
@@ -145,30 +148,29 @@ entry_read e word fits is = let t = fits.tag in let l = fits.layout in let c = f
           → entry_in word ≡ e
       same t l c i = λ j. record { tag = t j; layout = l j; cell = c j; incarnation = i j }
 
-root_small : (layout p : ℕ) → p < 8 → root_of layout p < 8
-root_small layout p few = by_test (eqb layout 1) where
-  by_test : (b : Bool) → cond b p 0 < 8
-  by_test true = few
-  by_test false = omega arith
+root_small : (shapes : List Shape) (layout p : ℕ) → p < 8 → root_of shapes layout p < 8
+root_small shapes layout p few = cell_few (shape_at shapes layout) p 8 few
 
 -- what an entry tells
-pub record IsEntryOf (layout p : ℕ) (e : LocalEntry) : Type 0 where
+pub record IsEntryOf (shapes : List Shape) (layout p : ℕ) (e : LocalEntry) : Type 0 where
   pub fits : EntryFits e
+  pub known : IsKnownTag shapes e.layout
   pub direct : e.tag ≡ 1 → e.layout ≡ layout
-  pub root : e.tag ≡ 1 → e.cell ≡ root_of e.layout p
+  pub root : e.tag ≡ 1 → e.cell ≡ root_of shapes e.layout p
   pub empty : e.tag ≡ 0 → (e.layout ≡ 0) × (e.cell ≡ 0)
   pub last : e.incarnation ≤ LAST_INCARNATION
 
-pub entry_of : (stage : SwapAt) (incarnation layout p : ℕ) (e : LocalEntry) → layout ≤ 2 → p < 8 → incarnation ≤ LAST_INCARNATION → IsEntry stage incarnation layout p e
-    → IsEntryOf layout p e
-entry_of stage incarnation layout p e few small most is = by_test (is_mediated stage p) is where
-  by_test : (b : Bool) → MatchBool b (IsMediator incarnation (behind stage) e) (IsOpen incarnation layout p e) → IsEntryOf layout p e
+pub entry_of : (stage : SwapAt) (incarnation : ℕ) (shapes : List Shape) (layout p : ℕ) (e : LocalEntry) → layout < 16 → IsKnownTag shapes layout → p < 8 → incarnation ≤ LAST_INCARNATION
+    → IsEntry stage incarnation shapes layout p e → IsEntryOf shapes layout p e
+entry_of stage incarnation shapes layout p e few known small most is = by_test (is_mediated stage p) is where
+  by_test : (b : Bool) → MatchBool b (IsMediator incarnation (behind stage) e) (IsOpen incarnation shapes layout p e) → IsEntryOf shapes layout p e
   by_test true m = record {
     fits = record {
       tag = let t = m.tag in omega (arith, t);
       layout = let t = m.blank.0 in omega (arith, t);
       cell = let t = m.blank.1 in omega (arith, t);
     };
+    known = let t = m.blank.0 in omega (arith, t);
     direct = λ one. absurd (let t = m.tag in omega (arith, t, one));
     root = λ one. absurd (let t = m.tag in omega (arith, t, one));
     empty = λ none. m.blank;
@@ -179,20 +181,22 @@ entry_of stage incarnation layout p e few small most is = by_test (is_mediated s
       (λ (none : (e.tag ≡ 0) × (e.layout ≡ 0) × (e.cell ≡ 0)).
       record {
         fits = record { tag = let t = none.0 in omega (arith, t); layout = let t = none.1 in omega (arith, t); cell = let t = none.2 in omega (arith, t) };
+        known = let t = none.1 in omega (arith, t);
         direct = λ one. absurd (let t = none.0 in omega (arith, t, one));
         root = λ one. absurd (let t = none.0 in omega (arith, t, one));
         empty = λ zero. (none.1, none.2);
         last = let t = o.number in omega (arith, t, most);
       })
-      (λ (some : (e.tag ≡ 1) × (e.layout ≡ layout) × (e.cell ≡ root_of layout p)).
+      (λ (some : (e.tag ≡ 1) × (e.layout ≡ layout) × (e.cell ≡ root_of shapes layout p)).
       record {
         fits = record {
           tag = let t = some.0 in omega (arith, t);
           layout = let t = some.1 in omega (arith, t, few);
-          cell = let t = some.2 in let lt = root_small layout p small in omega (arith, t, lt);
+          cell = let t = some.2 in let lt = root_small shapes layout p small in omega (arith, t, lt);
         };
+        known = let t = some.1 in omega (arith, t, known);
         direct = λ one. some.1;
-        root = λ one. some.2 ∙ ap (λ z. root_of z p) (sym some.1);
+        root = λ one. some.2 ∙ ap (λ z. root_of shapes z p) (sym some.1);
         empty = λ zero. absurd (let t = some.0 in omega (arith, t, zero));
         last = let t = o.number in omega (arith, t, most);
       })
@@ -206,16 +210,16 @@ module _ (s : Phases) (sound : IsSound s) (o : ℕ) (there : o < length s.object
         let few = count_by-le-length (λ x. counts_at x.place o) s.callers in
         let many = sound.in_scene.many_callers in let callers = sound.in_scene.in_course.limits.few_callers in
         omega (arith, counted, few, many, callers);
-    layout = (object_known s sound o there).bits_follow.layout;
+    layout = let known = (object_known s sound o there).bits_follow.layout in let few = (object_known s sound o there).bits_follow.few in omega (arith, known, few);
     incarnation = (object_known s sound o there).bits_follow.last;
   }
 
-  pub entry_known : (p : ℕ) → p < length s.turns.procs → IsEntryOf (object_at s o).layout p (entry_at (object_at s o) p)
+  pub entry_known : (p : ℕ) → p < length s.turns.procs → IsEntryOf (object_at s o).shapes (object_at s o).layout p (entry_at (object_at s o) p)
   entry_known p at =
       let look = sound.scene.looks o in let k = object_at s o in
       let many = sound.in_scene.in_course.many_procs in let few = sound.in_scene.in_course.limits.few_procs in
       let long = (object_known s sound o there).many_entries in
-      entry_of look.stage look.incarnation k.layout p (entry_at k p) object_fits.layout (omega (arith, many, few, at))
+      entry_of look.stage look.incarnation k.shapes k.layout p (entry_at k p) object_fits.layout (object_known s sound o there).bits_follow.layout (omega (arith, many, few, at))
       (subst (λ i. i ≤ LAST_INCARNATION) (object_known s sound o there).bits_follow.incarnation object_fits.incarnation)
       ((object_known s sound o there).entries_follow p (entry_at k p)
       (slice_get-get_or k.entries p (empty_entry 0) (omega (arith, many, long, at))))

@@ -5,12 +5,13 @@ use Rattle.std.specs.Prelude.{option_map}
 use Rattle.std.proofs.lemmas.Option.{same_Some}
 use Rattle.std.proofs.Math.ListN.{get_or-map}
 use Rattle.k42_kinds.specs.declared.entry.Entry.{Entry}
-use Rattle.k42_kinds.specs.Rows.{Ways, made_from, part_at, cells_of}
+use Rattle.k42_kinds.specs.Rows.{Ways, made_from, part_at}
+use Rattle.k42_shapes.specs.Shapes.{cells_of}
 use Rattle.turn_core.specs.State.{fresh_cell}
 use Rattle.turn_core.specs.Plain.{Cell}
 use Rattle.k42_stamp.specs.Chains.{Chain, Row, Turn, part_of, start_of}
 use Rattle.k42_stamp.specs.Laws.{AreLaws}
-use Rattle.k42_stamp.specs.Layouts.{Layouts}
+use Rattle.k42_stamp.specs.Layouts.{Layouts, shape_of}
 use Rattle.k42_stamp.proofs.Needed.{entries_all}
 use Rattle.k42_joined.specs.Fresh.{first_lives, fresh}
 use Rattle.k42_joined.specs.Numbers.{object_of, place_of, cell_of}
@@ -69,8 +70,8 @@ module _ {S L P O R : Type 0} (F : Layouts S L P O R) (laws : AreLaws F) (declar
         (subst (λ (parts : List P). HasDue (F.ways_of chain.row.layout) F.procs place None (part_at parts place))
         (sym (rw no_entry started))
         (subst
-        (λ z. HasDue (F.ways_of chain.row.layout) F.procs z None (part_at (made_from ((F.ways_of chain.row.layout).empty F.procs) 0 (cells_of (F.tag_of chain.row.layout) F.procs)) place))
-        (omega arith) (made_due (F.ways_of chain.row.layout) F.procs 0 (cells_of (F.tag_of chain.row.layout) F.procs) place)))
+        (λ z. HasDue (F.ways_of chain.row.layout) F.procs z None (part_at (made_from ((F.ways_of chain.row.layout).empty F.procs) 0 (cells_of (shape_of F chain.row.layout) F.procs)) place))
+        (omega arith) (made_due (F.ways_of chain.row.layout) F.procs 0 (cells_of (shape_of F chain.row.layout) F.procs) place)))
     by_test false is = absurd (none (ap (λ (past : List (Turn L P O R)). option_map (λ turn. turn.row) (slice_get past (length chain.past - 1 - life))) (sym no_turn) ∙ is)) where
       none : None ≡ Some row → ⊥
       none e = cc

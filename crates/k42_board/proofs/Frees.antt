@@ -214,7 +214,7 @@ module _ {S L P O R : Type 0} (F : Layouts S L P O R) (laws : AreLaws F) (declar
 
   module _ (below : k.freed < m) where
     rows : AreSameRows r.state (set s.objects o k') (set s.callers c x) r.state.kept
-    rows = rows_same r.state o k' (set s.callers c x) r.state.kept lt (record { layout = refl; incarnation = refl; complete = refl; freed = omega (arith, below) })
+    rows = rows_same r.state o k' (set s.callers c x) r.state.kept lt (record { shapes = refl; layout = refl; incarnation = refl; complete = refl; freed = omega (arith, below) })
 
     effect_is : t ≡ effect r.state (AtPhases (phases.Free c o))
     effect_is =
@@ -258,6 +258,7 @@ module _ {S L P O R : Type 0} (F : Layouts S L P O R) (laws : AreLaws F) (declar
           generations = record { turn = mine.generations.turn; graces = mine.generations.graces; base = mine.generations.base };
           phases = record {
             visitor = get_or-set_same s.callers c x _ mine.there ∙ x_is;
+            shapes = λ q. mine.phases.shapes q ∙ sym (on.shapes q);
             layout = λ l q i e inside. left.place q i inside ∙ mine.phases.layout l q i e inside;
             learned = mine.phases.learned;
             swap = record { turned = swap.turned; layout_begun = swap.layout_begun; begun = swap.begun; next = swap.next };

@@ -4,9 +4,11 @@ use Rattle.std.specs.List.{slice_get, list_all}
 use Rattle.std.proofs.lemmas.Bool.{eq-eqb, lt-ltb, and_parts, not-true}
 use mathlib.Core.Option.{some}
 use lib.ListN.{get_elem?}
+use Rattle.k42_shapes.proofs.ShapeLaws.{few_cells}
 use Rattle.atomic_table.specs.Table.{State}
 use Rattle.k42_limits.specs.declared.TheConstants.{LAST_INCARNATION}
-use Rattle.k42_kinds.specs.Rows.{part_at, cells_of}
+use Rattle.k42_kinds.specs.Rows.{part_at}
+use Rattle.k42_shapes.specs.Shapes.{cells_of}
 use Rattle.k42_kinds.specs.declared.entry.Answer.{Answer}
 use Rattle.k42_kinds.specs.declared.entry.Answer.TheVariants.{Swapped}
 use Rattle.k42_kinds.specs.declared.entry.Entry.{Entry}
@@ -22,8 +24,8 @@ use Rattle.turn_core.specs.Plain.{Cell, Turns}
 use Rattle.turn_core.specs.State.{cell_at}
 use Rattle.k42_stamp.specs.Chains.{Chain, part_of, parts_of, state_of}
 use Rattle.k42_stamp.specs.Laws.{AreLaws}
-use Rattle.k42_stamp.specs.Layouts.{Layouts}
-use Rattle.k42_stamp.proofs.PartsAfter.{parts_sized}
+use Rattle.k42_stamp.specs.Layouts.{Layouts, shape_of}
+use Rattle.k42_stamp.proofs.PartsAfter.{parts_sized, same_shape}
 use Rattle.k42_joined.specs.Effects.{effect}
 use Rattle.k42_joined.specs.Event.{HandWith}
 use Rattle.k42_joined.specs.Locks.{AreOfLives}
@@ -53,7 +55,7 @@ use Rattle.k42_board.proofs.Moves.{Moves}
 use Rattle.k42_board.proofs.Noted.{content_of, held_named, part_at_number}
 use Rattle.k42_board.proofs.OnePass.{with_pass, known}
 use Rattle.k42_board.proofs.PartLaws.{AreOneWay, IsMoving, moved_present, row_now}
-use Rattle.k42_board.proofs.RowCells.{row_once, place_in_row, made_row, part_within, due_self, due_value, few_cells_of}
+use Rattle.k42_board.proofs.RowCells.{row_once, place_in_row, made_row, part_within, due_self, due_value}
 
 -- lists that name cells, one after the other
 
@@ -292,6 +294,9 @@ module _ {S L P O R : Type 0} (F : Layouts S L P O R) (laws : AreLaws F) (agree 
   tags : F.tag_of may.layout ≡ F.tag_of x.row.layout
   tags = may.tagged ∙ sym moving.layout ∙ sym (row_now F laws declared table r id v at o moving.present may.declaration x declares rows).tagged
 
+  one_shape : shape_of F may.layout ≡ shape_of F x.row.layout
+  one_shape = same_shape F laws may.layout x.row.layout (may.same ∙ sym rows.fits.row.kind) tags
+
   ways : F.ways_of may.layout ≡ F.ways_of x.row.layout
   ways = agree may.layout x.row.layout (may.same ∙ sym rows.fits.row.kind) tags
 
@@ -303,20 +308,20 @@ module _ {S L P O R : Type 0} (F : Layouts S L P O R) (laws : AreLaws F) (agree 
       due_noted F laws declared table r id v at o i p named lt (noted_closing (cell_of o i p) (in_closing p lt))
       ((lives p lt).present.life ∙ sym hands_are) (let hands = hands_are in let freed = moving.freed in omega (arith, hands, freed))
 
-  sized : length (parts_of F x.row) ≡ cells_of (F.tag_of x.row.layout) F.procs
+  sized : length (parts_of F x.row) ≡ cells_of (shape_of F x.row.layout) F.procs
   sized = parts_sized F laws may.declaration o (history_in s o) x rows.fits
 
-  parts_are : parts_due (F.ways_of x.row.layout) F.procs v.notes o i (F.tag_of x.row.layout) ≡ parts_of F x.row
+  parts_are : parts_due (F.ways_of x.row.layout) F.procs v.notes o i (shape_of F x.row.layout) ≡ parts_of F x.row
   parts_are =
-      made_row (part_due (F.ways_of x.row.layout) F.procs v.notes o i) (cells_of (F.tag_of x.row.layout) F.procs) (parts_of F x.row) sized
+      made_row (part_due (F.ways_of x.row.layout) F.procs v.notes o i) (cells_of (shape_of F x.row.layout) F.procs) (parts_of F x.row) sized
       (λ p d e.
       let within = part_within (parts_of F x.row) p d e in
-      let long = sized in let most = few_cells_of (F.tag_of x.row.layout) F.procs laws.some in let same = same_procs in
+      let long = sized in let most = few_cells (shape_of F x.row.layout) F.procs laws.some in let same = same_procs in
       due_value (F.ways_of x.row.layout) F.procs p (part_noted v.notes (cell_of o i p)) d
       (subst (HasDue (F.ways_of x.row.layout) F.procs p (part_noted v.notes (cell_of o i p))) e (due p (omega (arith, within, long, most, same)))))
 
   moved_are : parts_moved F declared may.layout v may.object ≡ parts_of F x.row
-  moved_are = (λ j. parts_due (ways j) F.procs v.notes (sym self j) (moving.row j) (tags j)) ∙ parts_are
+  moved_are = (λ j. parts_due (ways j) F.procs v.notes (sym self j) (moving.row j) (one_shape j)) ∙ parts_are
 
   state_is : (F.ways_of may.layout).combine (parts_moved F declared may.layout v may.object) ≡ state_of F x.row
   state_is = λ j. (ways j).combine (moved_are j)

@@ -8,6 +8,7 @@ use mathlib.Core.Logic.{dite}
 use native.Mathlib.Decide.{ℕ_discrete}
 use mathlib.Core.Option.{some}
 use lib.ListN.{get_elem?}
+use Rattle.k42_shapes.proofs.ShapeLaws.{few_cells}
 use Rattle.atomic_table.specs.Table.{State}
 use Rattle.k42_kinds.specs.Rows.{part_at}
 use Rattle.k42_kinds.specs.declared.entry.Entry.{Entry}
@@ -15,7 +16,7 @@ use Rattle.turn_core.specs.Names.{names}
 use Rattle.turn_core.specs.Plain.{Cell}
 use Rattle.k42_stamp.specs.Chains.{Chain, Row, Turn, part_of, parts_of, state_of}
 use Rattle.k42_stamp.specs.Laws.{AreLaws}
-use Rattle.k42_stamp.specs.Layouts.{Layouts}
+use Rattle.k42_stamp.specs.Layouts.{Layouts, shape_of}
 use Rattle.k42_stamp.proofs.PartsAfter.{parts_sized}
 use Rattle.k42_joined.specs.Effects.{effect}
 use Rattle.k42_joined.specs.Event.{HandWith}
@@ -38,7 +39,7 @@ use Rattle.k42_board.specs.declared.view.PassView.{PassView}
 use Rattle.k42_board.specs.declared.view.View.{View}
 use Rattle.k42_board.specs.declared.view.View.TheVariants.{Crew}
 use Rattle.k42_board.proofs.DrawnParts.{row_newest, row_before, here, rows_here, past_here}
-use Rattle.k42_board.proofs.RowCells.{of_parity, no_part, due_self, few_cells_of}
+use Rattle.k42_board.proofs.RowCells.{of_parity, no_part, due_self}
 
 -- the rows of a chain to which one was added
 
@@ -220,12 +221,12 @@ module _ {S L P O R : Type 0} (F : Layouts S L P O R) (laws : AreLaws F) (declar
         sized_before : length (parts_of F x.row) ≤ F.procs
         sized_before =
             let sized = parts_sized F laws declaration o (history_in s o) x was.fits in
-            let most = few_cells_of (F.tag_of x.row.layout) F.procs laws.some in omega (arith, sized, most)
+            let most = few_cells (shape_of F x.row.layout) F.procs laws.some in omega (arith, sized, most)
 
         sized_after : length (parts_of F y.row) ≤ F.procs
         sized_after =
             let sized = parts_sized F laws declaration o (history_in t o) y is'.fits in
-            let most = few_cells_of (F.tag_of y.row.layout) F.procs laws.some in omega (arith, sized, most)
+            let most = few_cells (shape_of F y.row.layout) F.procs laws.some in omega (arith, sized, most)
 
         -- a cell of the row that was handed on
         closed_due : place_of n < procs → n ≡ cell_of o i (place_of n) → Due

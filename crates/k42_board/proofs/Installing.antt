@@ -6,6 +6,7 @@ use Rattle.std.proofs.lemmas.Option.{slice_get-get_or}
 use mathlib.Core.Option.{some}
 use lib.ListN.{get_elem?}
 use prog.Atomic.{either}
+use Rattle.k42_shapes.specs.declared.shape.Shape.{Shape}
 use Rattle.atomic_table.specs.Table.{State, Step, Allows}
 use Rattle.phase_core.specs.Effects.{at_place, is_empty_at, direct_entry}
 use Rattle.phase_core.specs.Event.{Install}
@@ -26,7 +27,7 @@ use Rattle.k42_board.specs.Cells.{Slot}
 use Rattle.k42_board.specs.Rule.{KnowsPass, Rule, Ruled}
 use Rattle.k42_board.specs.Seen.{IsSeatOf}
 use Rattle.k42_board.specs.Log.{took}
-use Rattle.k42_board.specs.Views.{pass_in}
+use Rattle.k42_board.specs.Views.{pass_in, shapes_at}
 use Rattle.k42_board.specs.Steps.{Seated, Tells}
 use Rattle.k42_board.specs.Tabling.{went, entry_object, layout_learned, MayInstall, empty_before, direct_after, direct_view, ended_view, installs, installed_view}
 use Rattle.k42_board.specs.Values.{local_value}
@@ -49,9 +50,9 @@ both_or_none false true f g = absurd (let e = g refl in cc)
 both_or_none false false f g = refl
 
 -- the word is that of an empty entry just where the entry is empty
-empty_shown : (layout p i found : ℕ) (e : LocalEntry) → IsEntryOf layout p e → found ≡ local_value e
+empty_shown : (shapes : List Shape) (layout p i found : ℕ) (e : LocalEntry) → IsEntryOf shapes layout p e → found ≡ local_value e
     → eqb found (local_value (empty_entry i)) ≡ is_empty_at e i
-empty_shown layout p i found e is shown =
+empty_shown shapes layout p i found e is shown =
     let t = is.fits.tag in let l = is.fits.layout in let c = is.fits.cell in
     both_or_none (eqb found (local_value (empty_entry i))) (is_empty_at e i)
     (λ same.
@@ -85,7 +86,7 @@ module _ {S L P O R : Type 0} (F : Layouts S L P O R) (laws : AreLaws F) (declar
   k = object_at s o
 
   abbrev d : LocalEntry
-  d = direct_entry l p i
+  d = direct_entry (shapes_at v o) l p i
 
   abbrev found : ℕ
   found = get_or table.words (local_word p o) 0
@@ -117,27 +118,27 @@ module _ {S L P O R : Type 0} (F : Layouts S L P O R) (laws : AreLaws F) (declar
   layout_is : k.layout ≡ l
   layout_is = learned v.layout refl may.rooted
 
-  entry_is : IsEntryOf k.layout p (entry_at k p) × (found ≡ local_value (entry_at k p))
+  entry_is : IsEntryOf k.shapes k.layout p (entry_at k p) × (found ≡ local_value (entry_at k p))
   entry_is = entry_at_home F laws declared table r id v at o there
 
   -- the event, where the entry is empty and where it is not
-  abbrev inst : Bool → Visitor → ℕ → ℕ → Joined L O R
-  inst b y q m = record r.state {
+  abbrev inst : Bool → Visitor → ℕ → List Shape → ℕ → Joined L O R
+  inst b y q shapes m = record r.state {
     phases =
-        cond b (put_object (put_visitor s c (at_place y (Direct o (row_of y.place)))) o (put_entry k q (direct_entry m q (row_of y.place)))) (put_visitor s c (at_place y Out));
+        cond b (put_object (put_visitor s c (at_place y (Direct o (row_of y.place)))) o (put_entry k q (direct_entry shapes m q (row_of y.place)))) (put_visitor s c (at_place y Out));
     kept = r.state.kept;
   }
 
   test_is : eqb found (empty_before v) ≡ is_empty_at (entry_at k (proc_of s c)) (row_of (visitor_at s c).place)
   test_is =
-      empty_shown k.layout p i found (entry_at k p) entry_is.0 entry_is.1
+      empty_shown k.shapes k.layout p i found (entry_at k p) entry_is.0 entry_is.1
       ∙ ap (λ (z : ℕ × Visitor). is_empty_at (entry_at k z.0) (row_of z.1.place)) (λ j. (sym home j, sym knows.phases.visitor j)) where
         home : proc_of s c ≡ p
         home = ap (λ z. z.proc) knows.generations.turn
 
-  effect_is : effect r.state (AtPhases (Install c o)) ≡ inst (eqb found (empty_before v)) v.visitor p l
+  effect_is : effect r.state (AtPhases (Install c o)) ≡ inst (eqb found (empty_before v)) v.visitor p (shapes_at v o) l
   effect_is =
-      ap (λ (z : Bool × Visitor × ℕ × ℕ). inst z.0 z.1 z.2 z.3) (λ j. (sym test_is j, knows.phases.visitor j, home j, layout_is j)) where
+      ap (λ (z : Bool × Visitor × ℕ × List Shape × ℕ). inst z.0 z.1 z.2 z.3 z.4) (λ j. (sym test_is j, knows.phases.visitor j, home j, sym (knows.phases.shapes o) j, layout_is j)) where
         home : proc_of s c ≡ p
         home = ap (λ z. z.proc) knows.generations.turn
 
@@ -153,7 +154,7 @@ module _ {S L P O R : Type 0} (F : Layouts S L P O R) (laws : AreLaws F) (declar
 
   abbrev Goal : Bool → Type 0
   Goal b =
-      Steps F declared r.state (AtPhases (Install c o)) (with_pass table (set table.words (local_word p o) (cond b (direct_after v) found)) table.homes id
+      Steps F declared r.state (AtPhases (Install c o)) (with_pass table (set table.words (local_word p o) (cond b (direct_after o v) found)) table.homes id
       (cond b (direct_view o v) (ended_view v)))
 
   abbrev x : Visitor
@@ -163,19 +164,19 @@ module _ {S L P O R : Type 0} (F : Layouts S L P O R) (laws : AreLaws F) (declar
   objects = set s.objects o (put_entry k p d)
 
   rows : AreSameRows r.state objects (set s.callers c x) r.state.kept
-  rows = rows_same r.state o (put_entry k p d) (set s.callers c x) r.state.kept there (record { layout = refl; incarnation = refl; complete = refl; freed = le_refl k.freed })
+  rows = rows_same r.state o (put_entry k p d) (set s.callers c x) r.state.kept there (record { shapes = refl; layout = refl; incarnation = refl; complete = refl; freed = le_refl k.freed })
 
-  by_test : (b : Bool) → effect r.state (AtPhases (Install c o)) ≡ inst b v.visitor p l → Goal b
+  by_test : (b : Bool) → effect r.state (AtPhases (Install c o)) ≡ inst b v.visitor p (shapes_at v o) l → Goal b
   by_test false is =
       reads F laws declared table r id v at (Install c o) Out v.visitor.read None possible (sym is)
       (λ m q j told inside. absurd inside) (λ served none. absurd (cc)) (local_word p o)
   by_test true is =
       visits F laws declared table r id v at (Install c o) objects r.state.kept x
       (same_visit F laws declared table r id v at (Install c o) objects r.state.kept x possible (sym is) rows (λ e not. refl))
-      (set table.words (local_word p o) (direct_after v)) (went v x v.layout)
-      (written_shows F laws declared table r id v at objects x r.state.kept (local_word p o) (direct_after v) (went v x v.layout)
+      (set table.words (local_word p o) (direct_after o v)) (went v x v.layout)
+      (written_shows F laws declared table r id v at objects x r.state.kept (local_word p o) (direct_after o v) (went v x v.layout)
       (of_entry p o p_few few) rows.many
-      (entry_written table.words s.objects o p k d (direct_after v) r.shows.many_words r.shows.few_objects
+      (entry_written table.words s.objects o p k d (direct_after o v) r.shows.many_words r.shows.few_objects
       (few_entries F laws declared table r id v at) p_few few (slice_get-get_or s.objects o fresh_object there) refl r.shows.objects))
       (goes F laws declared table r id v at objects (Direct o i) v.visitor.read v.layout rows
       (record {
@@ -187,11 +188,11 @@ module _ {S L P O R : Type 0} (F : Layouts S L P O R) (laws : AreLaws F) (declar
   installed = by_test (eqb found (empty_before v)) effect_is
 
 install_goes : {S L P O R : Type 0} (F : Layouts S L P O R) → AreLaws F → (declared : List L) (id o cell : ℕ) (v : PassView P O R) → MayInstall (length declared) o cell v
-    → Moves F declared (AtPhases (Install v.number o)) (local_word v.turn.proc o) (installs v) (installed_view o) id v
+    → Moves F declared (AtPhases (Install v.number o)) (local_word v.turn.proc o) (installs o v) (installed_view o) id v
 install_goes F laws declared id o cell v may = record { from = λ table r at. installed F laws declared table r id v at o cell may }
 
 pub install_moves : {S L P O R : Type 0} (F : Layouts S L P O R) → AreLaws F → (declared : List L) (id o cell : ℕ) (v : PassView P O R) → MayInstall (length declared) o cell v
-    → Moves F declared (AtPhases (Install v.number o)) (local_word v.turn.proc o) (installs v)
+    → Moves F declared (AtPhases (Install v.number o)) (local_word v.turn.proc o) (installs o v)
     (λ found x. took steps.Install (local_word x.turn.proc o) found (installed_view o found x)) id v
 install_moves F laws declared id o cell v may = record { from = (logged_moves steps.Install (λ n. n) (λ found q before is. is) (install_goes F laws declared id o cell v may)).from }
 
@@ -199,7 +200,7 @@ install_moves F laws declared id o cell v may = record { from = (logged_moves st
 module _ {S L P O R : Type 0} (F : Layouts S L P O R) (laws : AreLaws F) (declared : List L) (id o cell : ℕ) (few : o < 16)
     (me : Seated P O R) (is : IsSeatOf me (pass_in me.0)) (may : MayInstall (length declared) o cell (pass_in me.0))
     (word home : ℕ) (at : word ≡ local_word home o) (same : (pass_in me.0).turn.proc ≡ home)
-    (old new : ℕ) (words : (old ≡ empty_before (pass_in me.0)) × (new ≡ direct_after (pass_in me.0))) where
+    (old new : ℕ) (words : (old ≡ empty_before (pass_in me.0)) × (new ≡ direct_after o (pass_in me.0))) where
   install_there : word ≡ local_word (pass_in me.0).turn.proc o
   install_there = at ∙ ap (λ p. local_word p o) (sym same)
 

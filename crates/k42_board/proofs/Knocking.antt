@@ -1,5 +1,5 @@
 -- Knocking at a mediator, and stepping out of it.
-use Rattle.std.proofs.Common.{◌≡◌, ◌≢◌, ℕ, ◌+◌, ◌-◌, ◌%◌, ◌^◌, ◌<◌, ◌≤◌, Bool, true, false, cond, List, [], ◌∷◌, Option, Some, None, length, get_or, set, sym, refl, ap, ◌∙◌, arith, le_refl}
+use Rattle.std.proofs.Common.{◌≡◌, ◌≢◌, ℕ, ◌+◌, ◌-◌, ◌%◌, ◌^◌, ◌<◌, ◌≤◌, Bool, true, false, cond, List, [], ◌∷◌, Option, Some, None, length, get_or, set, sym, refl, ap, ◌∙◌, subst, arith, le_refl}
 use Rattle.std.proofs.lemmas.Option.{slice_get-get_or, same_Some}
 use mathlib.Core.Option.{some}
 use lib.ListN.{get_elem?}
@@ -37,7 +37,7 @@ use Rattle.k42_board.specs.declared.view.View.{View}
 use Rattle.k42_board.specs.declared.view.View.TheVariants.{Crew}
 use Rattle.k42_board.proofs.AtTables.{visited, Steps, IsSameRow, same_visit, visits, goes, of_object, object_written, rows_same, few_entries, written_shows}
 use Rattle.k42_board.proofs.Fields.{IsRead, object_fits, counted_more, counted_less}
-use Rattle.k42_board.proofs.Looking.{place_is, object_shown, object_is_read, object_seen}
+use Rattle.k42_board.proofs.Looking.{place_is, object_shown, object_is_read, object_seen, word_object_is}
 use Rattle.k42_board.proofs.Logged.{logged_moves}
 use Rattle.k42_board.proofs.Moves.{Moves, Finds}
 use Rattle.k42_board.proofs.OnePass.{with_pass, known}
@@ -119,7 +119,7 @@ module _ {S L P O R : Type 0} (F : Layouts S L P O R) (laws : AreLaws F) (declar
     value = counted_more k found (object_fits s r.sound.phases o o_there) (object_shown F laws declared table r id v at o o_there)
 
     same : IsSameRow k (counted_in k)
-    same = record { layout = refl; incarnation = refl; complete = refl; freed = le_refl k.freed }
+    same = record { shapes = refl; layout = refl; incarnation = refl; complete = refl; freed = le_refl k.freed }
 
     by_block : (b : Bool) → effect r.state (AtPhases (Knock c o)) ≡ knocks b v.visitor (incarnation_in found) → Goal b
     by_block true is =
@@ -158,7 +158,7 @@ module _ {S L P O R : Type 0} (F : Layouts S L P O R) (laws : AreLaws F) (declar
     pub steps_out : Steps F declared r.state (AtPhases (StepOut c)) (with_pass table (set table.words (object_word here) ((seen + (2 ^ 64 - 1)) % 2 ^ 64)) table.homes id (ended_view v))
     steps_out =
         counts here counted.0 (StepOut c) (counted_out (object_at s here)) Out v.visitor.read None ((seen + (2 ^ 64 - 1)) % 2 ^ 64)
-        (record { layout = refl; incarnation = refl; complete = refl; freed = le_refl (object_at s here).freed }) refl refl
+        (record { shapes = refl; layout = refl; incarnation = refl; complete = refl; freed = le_refl (object_at s here).freed }) refl refl
         (counted_less (object_at s here) seen (object_fits s r.sound.phases here counted.0) counted.1 (object_shown F laws declared table r id v at here counted.0))
         (record {
           caller = knows.there;
@@ -189,13 +189,9 @@ pub step_out_moves : {S L P O R : Type 0} (F : Layouts S L P O R) → AreLaws F 
     (λ found x. took steps.StepOut (object_word (object_of x.visitor.place)) found (ended_view x)) id v
 step_out_moves F laws declared id v may = record { from = (logged_moves steps.StepOut (λ n. n) (λ found q before is. is) (step_out_goes F laws declared id v may)).from }
 
--- the word tells the object
-pub word_object_is : (o word : ℕ) → word ≡ object_word o → word_object word ≡ o
-word_object_is o word is = omega (arith, is)
-
 -- what is found of an object
 pub object_finds : {S L P O R : Type 0} (F : Layouts S L P O R) → AreLaws F → (declared : List L) (id o : ℕ) (v : PassView P O R) → o < length declared
-    → Finds F declared (object_word o) ObjectFound id v
+    → Finds F declared (object_word o) (ObjectFound o) id v
 object_finds F laws declared id o v lt table r at =
     object_seen F laws declared table r id v at o (let many = r.sound.cells.rows.objects in omega (arith, many, lt))
 
@@ -210,12 +206,12 @@ module _ {S L P O R : Type 0} (F : Layouts S L P O R) (laws : AreLaws F) (declar
   knock_same found = ap (λ at. knock_at at found (pass_in me.0)) (λ j. (sym there j, sym (word_object_is o word there) j))
 
   pub knock_allowed : {callers : ℕ} (slots : ℕ) (step : Step (Slot P O R))
-      → Allows (Ruled F declared callers) slots id me word (λ n. (n + 1) % 2 ^ 64) (TellsWith (knock_at (word, word_object word)) ObjectFound step me)
+      → Allows (Ruled F declared callers) slots id me word (λ n. (n + 1) % 2 ^ 64) (TellsWith (knock_at (word, word_object word)) (ObjectFound (word_object word)) step me)
   knock_allowed slots step =
-      retold_allowed_with (knock_at (object_word o, o)) (knock_at (word, word_object word)) knock_same (knock_moves F laws declared id o (pass_in me.0) may) ObjectFound
-      (object_finds F laws declared id o (pass_in me.0) may.there) me is word there slots step
+      retold_allowed_with (knock_at (object_word o, o)) (knock_at (word, word_object word)) knock_same (knock_moves F laws declared id o (pass_in me.0) may) (ObjectFound (word_object word))
+      (subst (λ q. Finds F declared (object_word o) (ObjectFound q) id (pass_in me.0)) (sym (word_object_is o word there)) (object_finds F laws declared id o (pass_in me.0) may.there)) me is word there slots step
 
-  pub knock_told : (step : Step (Slot P O R)) (found : ℕ) (after : Seated P O R) → TellsWith (knock_at (word, word_object word)) ObjectFound step me found after
+  pub knock_told : (step : Step (Slot P O R)) (found : ℕ) (after : Seated P O R) → TellsWith (knock_at (word, word_object word)) (ObjectFound (word_object word)) step me found after
       → Tells (knock_at (object_word o, o)) step me found after
   knock_told step found after told = retold (knock_at (object_word o, o)) (knock_at (word, word_object word)) knock_same me after is step found told.0
 

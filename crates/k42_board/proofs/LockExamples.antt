@@ -12,7 +12,7 @@ use Rattle.k42_kinds.specs.declared.operation.Reply.{Reply}
 
 -- the caller 3 tries the lock of the cell 5
 abbrev first : PassView ℕ Op Reply
-first = new_pass 1 1 3 0
+first = new_pass 1 ([] ∷ []) 3 0
 
 abbrev loud : PassView ℕ Op Reply → WordStep ℕ ℕ ℕ Op Reply
 loud = lock 5

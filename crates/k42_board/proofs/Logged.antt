@@ -40,6 +40,7 @@ known_relogged tag_of s beside id v log swept k = record {
   generations = record { turn = k.generations.turn; graces = k.generations.graces; base = k.generations.base };
   phases = record {
     visitor = k.phases.visitor;
+    shapes = k.phases.shapes;
     layout = k.phases.layout;
     learned = k.phases.learned;
     swap = record { turned = k.phases.swap.turned; layout_begun = k.phases.swap.layout_begun; begun = k.phases.swap.begun; next = k.phases.swap.next };

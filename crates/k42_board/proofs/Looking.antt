@@ -6,6 +6,7 @@ use Rattle.std.proofs.lemmas.List.{set-get_or}
 use Rattle.std.proofs.lemmas.Option.{slice_get-get_or, same_Some}
 use mathlib.Core.Option.{some}
 use lib.ListN.{get_elem?}
+use Rattle.k42_shapes.specs.Shapes.{IsKnownTag}
 use Rattle.atomic_table.specs.Table.{State, Step, Allows}
 use Rattle.gen_core.specs.Plain.{Caller}
 use Rattle.gen_core.specs.State.{caller_at}
@@ -19,7 +20,7 @@ use Rattle.phase_core.specs.State.{object_at, visitor_at, entry_at, fresh_object
 use Rattle.phase_core.specs.declared.caller.Place.{Place}
 use Rattle.phase_core.specs.declared.caller.Place.TheVariants.{Out, Missed, Direct, AtMediator}
 use Rattle.phase_core.specs.declared.object.LocalEntry.{LocalEntry}
-use Rattle.phase_core.proofs.InSound.{visitor_known, inside_is_present}
+use Rattle.phase_core.proofs.InSound.{object_known, visitor_known, inside_is_present}
 use Rattle.phase_core.proofs.Ranges.{turns_sound, entry_there}
 use Rattle.phase_core.proofs.Reached.{turn_there}
 use Rattle.turn_core.specs.Plain as turns
@@ -38,7 +39,7 @@ use Rattle.k42_board.specs.Seen.{IsSeatOf}
 use Rattle.k42_board.specs.Log.{took}
 use Rattle.k42_board.specs.Views.{pass_in}
 use Rattle.k42_board.specs.Steps.{Seated, Tells, TellsWith}
-use Rattle.k42_board.specs.Tabling.{went, EntryFound, ObjectFound, RootFound, entry_in, entry_object, layout_told, MayLookUp, looked_up_view, MayLoadRoot, rooted_view, MayEndCall, ended_view}
+use Rattle.k42_board.specs.Tabling.{went, EntryFound, ObjectFound, RootFound, entry_in, entry_object, layout_told, MayLookUp, looked_up_view, MayLoadRoot, rooted_view, MayEndCall, ended_view, word_object}
 use Rattle.k42_board.specs.Values.{layout_in, local_value, object_value}
 use Rattle.k42_board.specs.Words.{object_word, local_word}
 use Rattle.k42_board.specs.declared.view.PassView.{PassView}
@@ -140,11 +141,13 @@ module _ {S L P O R : Type 0} (F : Layouts S L P O R) (laws : AreLaws F) (declar
   object_is_read o there =
       object_read (object_at s o) (get_or table.words (object_word o) 0) (object_fits s r.sound.phases o there) (object_shown o there)
 
-  pub object_seen : (o : ℕ) → o < length s.objects → ObjectFound v (get_or table.words (object_word o) 0)
+  pub object_seen : (o : ℕ) → o < length s.objects → ObjectFound o v (get_or table.words (object_word o) 0)
   object_seen o there =
       let is = object_is_read o there in let fits = object_fits s r.sound.phases o there in
       record {
-        layout = let same = is.layout in let most = fits.layout in omega (arith, same, most);
+        layout =
+            let same = is.layout in let known = (object_known s r.sound.phases o there).bits_follow.layout in
+            subst (λ shapes. IsKnownTag shapes (layout_in (get_or table.words (object_word o) 0))) (sym (knows.phases.shapes o)) (omega (arith, same, known));
         last = let same = is.incarnation in let most = fits.incarnation in omega (arith, same, most);
       }
 
@@ -174,7 +177,7 @@ module _ {S L P O R : Type 0} (F : Layouts S L P O R) (laws : AreLaws F) (declar
               let here : IsInside (Missed o is.0) q i = subst (λ z. IsInside z q i) is.1 inside in
               ap (λ z. (object_at s z).layout) (sym here.0) ∙ sym (word_there o (missed_there o may.missed)) ∙ same_Some (layout_in found) l told
 
-    pub root_seen : RootFound v found
+    pub root_seen : RootFound o v found
     root_seen = record {
       word = object_seen o (missed_there o may.missed);
       row =
@@ -214,7 +217,7 @@ module _ {S L P O R : Type 0} (F : Layouts S L P O R) (laws : AreLaws F) (declar
 
   -- the entry of its own processor
   pub entry_at_home : (o : ℕ) → o < length s.objects
-      → IsEntryOf (object_at s o).layout v.turn.proc (entry_at (object_at s o) v.turn.proc)
+      → IsEntryOf (object_at s o).shapes (object_at s o).layout v.turn.proc (entry_at (object_at s o) v.turn.proc)
       × (get_or table.words (local_word v.turn.proc o) 0 ≡ local_value (entry_at (object_at s o) v.turn.proc))
   entry_at_home o there = (
     entry_known s r.sound.phases o there v.turn.proc home_there',
@@ -257,13 +260,15 @@ module _ {S L P O R : Type 0} (F : Layouts S L P O R) (laws : AreLaws F) (declar
               ∙ ap (λ (z : LocalEntry). z.layout) (sym entry_is) ∙ same_Some e.layout l told
           told_by false one l q same told = absurd (cc)
 
-    pub entry_seen : EntryFound v seen
+    pub entry_seen : EntryFound o v seen
     entry_seen =
         let known = (entry_at_home o there).0 in
         record {
           tag = subst (λ (z : LocalEntry). z.tag ≤ 2) (sym entry_is) known.fits.tag;
-          layout = subst (λ (z : LocalEntry). z.layout ≤ 2) (sym entry_is) known.fits.layout;
-          cell = subst (λ (z : LocalEntry). z.tag ≡ 1 → z.cell ≡ root_of z.layout v.turn.proc) (sym entry_is) known.root;
+          layout = subst (λ shapes. IsKnownTag shapes (entry_in seen).layout) (sym (knows.phases.shapes o))
+              (subst (λ (z : LocalEntry). IsKnownTag (object_at s o).shapes z.layout) (sym entry_is) known.known);
+          cell = subst (λ shapes. (entry_in seen).tag ≡ 1 → (entry_in seen).cell ≡ root_of shapes (entry_in seen).layout v.turn.proc) (sym (knows.phases.shapes o))
+              (subst (λ (z : LocalEntry). z.tag ≡ 1 → z.cell ≡ root_of (object_at s o).shapes z.layout v.turn.proc) (sym entry_is) known.root);
           last = let same = ap (λ (z : LocalEntry). z.incarnation) entry_is in let most = known.last in omega (arith, same, most);
         }
 
@@ -278,7 +283,7 @@ pub root_moves : {S L P O R : Type 0} (F : Layouts S L P O R) → AreLaws F → 
 root_moves F laws declared id o v may = logged_moves steps.LoadRoot (λ n. n) (λ found q before is. is) (root_goes F laws declared id o v may)
 
 pub root_finds : {S L P O R : Type 0} (F : Layouts S L P O R) → AreLaws F → (declared : List L) (id o : ℕ) (v : PassView P O R) → MayLoadRoot (length declared) o v
-    → Finds F declared (object_word o) RootFound id v
+    → Finds F declared (object_word o) (RootFound o) id v
 root_finds F laws declared id o v may table r at = root_seen F laws declared table r id v at o may
 
 end_goes : {S L P O R : Type 0} (F : Layouts S L P O R) → AreLaws F → (declared : List L) (id word : ℕ) (v : PassView P O R) → MayEndCall v
@@ -303,12 +308,15 @@ look_moves F laws declared id o v may = record { from = (logged_moves steps.Look
 
 -- what it finds
 pub look_finds : {S L P O R : Type 0} (F : Layouts S L P O R) → AreLaws F → (declared : List L) (id o : ℕ) (v : PassView P O R) → MayLookUp (length declared) o v
-    → Finds F declared (local_word v.turn.proc o) EntryFound id v
+    → Finds F declared (local_word v.turn.proc o) (EntryFound o) id v
 look_finds F laws declared id o v may table r at = entry_seen F laws declared table r id v at o may
 
 -- the word tells the object
 pub object_is : (p o word : ℕ) → o < 16 → word ≡ local_word p o → entry_object word ≡ o
 object_is p o word few is = omega (arith, few, is)
+
+pub word_object_is : (o word : ℕ) → word ≡ object_word o → word_object word ≡ o
+word_object_is o word is = omega (arith, is)
 
 -- as the plays tell them, at the words that the steps name
 
@@ -320,12 +328,12 @@ module _ {S L P O R : Type 0} (F : Layouts S L P O R) (laws : AreLaws F) (declar
   root_same : (found : ℕ) → root_at (object_word o) found (pass_in me.0) ≡ root_at word found (pass_in me.0)
   root_same found = ap (λ i. root_at i found (pass_in me.0)) (sym there)
 
-  pub root_allowed : {callers : ℕ} (slots : ℕ) (step : Step (Slot P O R)) → Allows (Ruled F declared callers) slots id me word (λ n. n) (TellsWith (root_at word) RootFound step me)
+  pub root_allowed : {callers : ℕ} (slots : ℕ) (step : Step (Slot P O R)) → Allows (Ruled F declared callers) slots id me word (λ n. n) (TellsWith (root_at word) (RootFound (word_object word)) step me)
   root_allowed slots step =
-      retold_allowed_with (root_at (object_word o)) (root_at word) root_same (root_moves F laws declared id o (pass_in me.0) may) RootFound
-      (root_finds F laws declared id o (pass_in me.0) may) me is word there slots step
+      retold_allowed_with (root_at (object_word o)) (root_at word) root_same (root_moves F laws declared id o (pass_in me.0) may) (RootFound (word_object word))
+      (subst (λ q. Finds F declared (object_word o) (RootFound q) id (pass_in me.0)) (sym (word_object_is o word there)) (root_finds F laws declared id o (pass_in me.0) may)) me is word there slots step
 
-  pub root_told : (step : Step (Slot P O R)) (found : ℕ) (after : Seated P O R) → TellsWith (root_at word) RootFound step me found after
+  pub root_told : (step : Step (Slot P O R)) (found : ℕ) (after : Seated P O R) → TellsWith (root_at word) (RootFound (word_object word)) step me found after
       → Tells (root_at (object_word o)) step me found after
   root_told step found after told = retold (root_at (object_word o)) (root_at word) root_same me after is step found told.0
 
@@ -367,10 +375,10 @@ module _ {S L P O R : Type 0} (F : Layouts S L P O R) (laws : AreLaws F) (declar
       ap (λ (z : ℕ × ℕ). took steps.LookUp z.0 found (looked_up_view z.1 found (pass_in me.0)))
       (λ j. (sym look_there j, sym (object_is home o word few at) j))
 
-  pub look_allowed : {callers : ℕ} (slots : ℕ) (step : Step (Slot P O R)) → Allows (Ruled F declared callers) slots id me word (λ n. n) (TellsWith look_play EntryFound step me)
+  pub look_allowed : {callers : ℕ} (slots : ℕ) (step : Step (Slot P O R)) → Allows (Ruled F declared callers) slots id me word (λ n. n) (TellsWith look_play (EntryFound (entry_object word)) step me)
   look_allowed slots step =
-      retold_allowed_with look_row look_play look_same (look_moves F laws declared id o (pass_in me.0) may) EntryFound
-      (look_finds F laws declared id o (pass_in me.0) may) me is word look_there slots step
+      retold_allowed_with look_row look_play look_same (look_moves F laws declared id o (pass_in me.0) may) (EntryFound (entry_object word))
+      (subst (λ q. Finds F declared (local_word (pass_in me.0).turn.proc o) (EntryFound q) id (pass_in me.0)) (sym (object_is home o word few at)) (look_finds F laws declared id o (pass_in me.0) may)) me is word look_there slots step
 
-  pub look_told : (step : Step (Slot P O R)) (found : ℕ) (after : Seated P O R) → TellsWith look_play EntryFound step me found after → Tells look_row step me found after
+  pub look_told : (step : Step (Slot P O R)) (found : ℕ) (after : Seated P O R) → TellsWith look_play (EntryFound (entry_object word)) step me found after → Tells look_row step me found after
   look_told step found after told = retold look_row look_play look_same me after is step found told.0

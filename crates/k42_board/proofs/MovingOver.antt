@@ -7,6 +7,7 @@ use Rattle.std.proofs.lemmas.Option.{slice_get-get_or}
 use mathlib.Core.Option.{some}
 use lib.ListN.{get_elem?}
 use prog.Atomic.{either}
+use Rattle.k42_shapes.specs.declared.shape.Shape.{Shape}
 use Rattle.atomic_table.specs.Table.{State, Step, Allows}
 use Rattle.phase_core.specs.Effects.{at_stage}
 use Rattle.phase_core.specs.Event.{Move}
@@ -56,7 +57,7 @@ record IsBlocking (swap : SwapAt) : Type 0 where
   pub not_moved : (o : ℕ) → swap ≡ Moved o → ⊥
   pub unturned : (k : Object) → is_turned swap k ≡ false
   pub bits_are :
-      (b : Bits) (layout incarnation : ℕ) → BitsFollow b layout incarnation swap
+      (b : Bits) (shapes : List Shape) (layout incarnation : ℕ) → BitsFollow b shapes layout incarnation swap
       → (b.block ≡ true) × (b.moving ≡ false) × (b.complete ≡ false)
 
 blocking_is : (swap : SwapAt) → is_blocking swap ≡ true → IsBlocking swap
@@ -65,7 +66,7 @@ blocking_is (Blocking o) e = record {
   unmoved = refl;
   not_moved = λ q same. absurd (let not : is_moved (Blocking o) ≡ true = ap is_moved same in cc);
   unturned = λ k. refl;
-  bits_are = λ b layout incarnation is. is.0;
+  bits_are = λ b shapes layout incarnation is. is.0;
 }
 blocking_is swap e = absurd (cc)
 
@@ -123,7 +124,7 @@ module _ {S L P O R : Type 0} (F : Layouts S L P O R) (laws : AreLaws F) (declar
   fits = object_fits s r.sound.phases o o_there
 
   bits_are : (k.block ≡ true) × (k.moving ≡ false) × (k.complete ≡ false)
-  bits_are = stage.bits_are _ _ _ (bits F laws declared table r id v at stage.named)
+  bits_are = stage.bits_are _ _ _ _ (bits F laws declared table r id v at stage.named)
 
   swap_set : k.swap ≡ true
   swap_set = swap_is_set F laws declared table r id v at stage.named
@@ -167,7 +168,7 @@ module _ {S L P O R : Type 0} (F : Layouts S L P O R) (laws : AreLaws F) (declar
   }
 
   staged : IsStaged r.state o k'
-  staged = stays_staged r.state o k' (record { layout = refl; incarnation = refl; freed = refl; complete = λ done. done })
+  staged = stays_staged r.state o k' (record { shapes = refl; layout = refl; incarnation = refl; freed = refl; complete = λ done. done })
 
   abbrev after : Joined L O R
   after = visited r.state (set s.objects o k') (set s.callers c (at_stage v.visitor (Moved o))) r.state.kept

@@ -75,6 +75,7 @@ module _ {L P O R : Type 0} (tag_of : L → ℕ) (s : Joined L O R) (beside : Be
     };
     phases = record {
       visitor = k.phases.visitor;
+      shapes = k.phases.shapes;
       layout = k.phases.layout;
       learned = k.phases.learned;
       swap = record {

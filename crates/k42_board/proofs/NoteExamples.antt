@@ -52,7 +52,7 @@ abbrev flipping : Caller
 flipping = record (fresh_caller 3 0) { grace = Flipping 1; waits = 4 ∷ 0 ∷ 0 ∷ []; coming = Some 6 }
 
 abbrev asked : PassView ℕ Op Reply
-asked = record (new_pass 3 1 0 0) { turn = flipping; base = Some 9 }
+asked = record (new_pass 3 ([] ∷ []) 0 0) { turn = flipping; base = Some 9 }
 
 -- generation 10, with the exits to come as its entries
 word : flip_word asked ≡ 10 + 2 ^ 32 * 6

@@ -7,8 +7,10 @@ use Rattle.std.proofs.lemmas.List.{length-append, length-map}
 use Rattle.std.proofs.lemmas.Option.{same_Some}
 use mathlib.Core.Option.{some}
 use lib.ListN.{get_elem?}
+use Rattle.k42_shapes.specs.declared.shape.Shape.{Shape}
 use Rattle.atomic_table.specs.Table.{State}
-use Rattle.k42_kinds.specs.Rows.{Ways, cells_of, part_at}
+use Rattle.k42_kinds.specs.Rows.{Ways, part_at}
+use Rattle.k42_shapes.specs.Shapes.{cells_of, IsLiveTag}
 use Rattle.phase_core.specs.Plain.{Visitor}
 use Rattle.phase_core.specs.Stages.{IsInside, named_by, object_named, is_moved}
 use Rattle.phase_core.specs.State.{object_at, visitor_at}
@@ -16,8 +18,8 @@ use Rattle.phase_core.specs.declared.caller.SwapAt.TheVariants.{Moved}
 use Rattle.phase_core.proofs.InSound.{inside_is_present, moved_is_ready}
 use Rattle.k42_stamp.specs.Chains.{Chain, Row, Turn, parts_of}
 use Rattle.k42_stamp.specs.Laws.{AreLaws}
-use Rattle.k42_stamp.specs.Layouts.{Layouts}
-use Rattle.k42_stamp.proofs.PartsAfter.{parts_whole, parts_sized}
+use Rattle.k42_stamp.specs.Layouts.{Layouts, shape_of}
+use Rattle.k42_stamp.proofs.PartsAfter.{parts_whole, parts_sized, same_shape}
 use Rattle.k42_joined.specs.Answers.{is_turned}
 use Rattle.k42_joined.specs.Fitting.{HasItsTag}
 use Rattle.k42_joined.specs.Locks.{other_life}
@@ -34,7 +36,7 @@ use Rattle.k42_board.specs.Rule.{KnowsPass, Rule}
 use Rattle.k42_board.specs.Steps.{Always}
 use Rattle.k42_board.specs.Taking.{TouchesFreed, IsRowNoted, AreRowsNoted}
 use Rattle.k42_board.specs.Values.{layout_in, incarnation_in}
-use Rattle.k42_board.specs.Views.{word_begun}
+use Rattle.k42_board.specs.Views.{shapes_at, word_begun}
 use Rattle.k42_board.specs.declared.view.Note.{Note}
 use Rattle.k42_board.specs.declared.view.PassView.{PassView}
 use Rattle.k42_board.specs.declared.view.View.{View}
@@ -115,7 +117,7 @@ module _ {S L P O R : Type 0} (F : Layouts S L P O R) (laws : AreLaws F) (declar
     pub present : IsPresent o
     pub row : incarnation_in (word_begun v.last) ≡ incarnation s o
     pub layout : (object s o).layout ≡ layout_in (word_begun v.last)
-    pub live : layout_in (word_begun v.last) ≤ 1
+    pub live : IsLiveTag (shapes_at v o) (layout_in (word_begun v.last))
     pub freed : (object s o).freed ≡ incarnation s o
 
   pub moved_present : (o : ℕ) → v.visitor.swap ≡ Moved o → v.handed ≡ None → IsMoving o
@@ -133,7 +135,8 @@ module _ {S L P O R : Type 0} (F : Layouts S L P O R) (laws : AreLaws F) (declar
         };
         row = knows.phases.swap.begun o (ap named_by swap) turned;
         layout = sym layout;
-        live = omega (arith, layout, alive);
+        live =
+            subst (λ (shapes : List Shape). IsLiveTag shapes (layout_in (word_begun v.last))) (sym (knows.phases.shapes o)) (omega (arith, layout, alive));
         freed = ready.freed;
       }
 
@@ -164,9 +167,12 @@ module _ {S L P O R : Type 0} (F : Layouts S L P O R) (laws : AreLaws F) (declar
       tagged : HasItsTag F declaration s o
       tagged = subst (λ d. HasItsTag F d s o) (sym same) at_o.has.tagged
 
+      shaped : (object s o).shapes ≡ F.shapes_of declaration
+      shaped = at_o.has.shaped ∙ ap F.shapes_of (sym same)
+
       long : length chain.past ≡ many_hands s o
       long =
-          many_past F laws declared s r.sound.cells.turns r.sound.cells.locks r.sound.cells.rows r.sound.answers o declaration chain (record { rows = rows; tagged = tagged })
+          many_past F laws declared s r.sound.cells.turns r.sound.cells.locks r.sound.cells.rows r.sound.answers o declaration chain (record { rows = rows; tagged = tagged; shaped = shaped })
 
       none_ahead : many_hands s o - incarnation s o ≡ 0
       none_ahead = let are = hands_are in omega (arith, are)
@@ -223,7 +229,7 @@ module _ {S L P O R : Type 0} (F : Layouts S L P O R) (laws : AreLaws F) (declar
     -- where nothing is noted of a place that the row has, the empty part is due there
     empty_due : AreOneWay F → (n p : ℕ) → n ≡ cell_of o (incarnation s o) p → p < F.procs → r.beside.contents.part n ≡ None
         → (declaration layout : L) → slice_get declared o ≡ Some declaration → F.object_of layout ≡ F.object_of declaration → F.tag_of layout ≡ (object s o).layout
-        → p < cells_of (F.tag_of layout) F.procs → IsPart F declared s n (Some ((F.ways_of layout).empty F.procs p))
+        → p < cells_of (shape_of F layout) F.procs → IsPart F declared s n (Some ((F.ways_of layout).empty F.procs p))
     empty_due one_way n p here lt none declaration layout declares kind tag place = record {
       due = λ declaration' chain row declares' rows' is_row kept.
           let q = object_is n p here lt in
@@ -233,11 +239,11 @@ module _ {S L P O R : Type 0} (F : Layouts S L P O R) (laws : AreLaws F) (declar
           let first = first_row chain (cell s n).life (life_is n p here lt ∙ sym now.many) in
           let row_is : chain.row ≡ row = same_Some chain.row row (sym first ∙ is_row) in
           let same : declaration ≡ declaration' = same_Some declaration declaration' (sym declares ∙ declares'') in
-          let ways : F.ways_of layout ≡ F.ways_of chain.row.layout =
-          one_way layout chain.row.layout (kind ∙ ap F.object_of same ∙ sym rows.fits.row.kind) (tag ∙ sym now.tagged) in
+          let kinds : F.object_of layout ≡ F.object_of chain.row.layout = kind ∙ ap F.object_of same ∙ sym rows.fits.row.kind in
+          let ways : F.ways_of layout ≡ F.ways_of chain.row.layout = one_way layout chain.row.layout kinds (tag ∙ sym now.tagged) in
           let sized = parts_sized F laws declaration' o (history_in s o) chain rows.fits in
           let tags : F.tag_of layout ≡ F.tag_of chain.row.layout = tag ∙ sym now.tagged in
-          let inside : p < length (parts_of F chain.row) = subst (λ k. p < k) (ap (λ t. cells_of t F.procs) tags ∙ sym sized) place in
+          let inside : p < length (parts_of F chain.row) = subst (λ k. p < k) (ap (λ (shape : Shape). cells_of shape F.procs) (same_shape F laws layout chain.row.layout kinds tags) ∙ sym sized) place in
           let old = subst (λ part. HasDue (F.ways_of chain.row.layout) F.procs p part (part_at (parts_of F chain.row) p)) none (has_due n p here lt declaration' chain declares'' rows) in
           let new : HasDue (F.ways_of chain.row.layout) F.procs p (Some ((F.ways_of layout).empty F.procs p)) (part_at (parts_of F chain.row) p) =
           subst (λ (w : Ways S P O R). HasDue (F.ways_of chain.row.layout) F.procs p (Some (w.empty F.procs p)) (part_at (parts_of F chain.row) p)) (sym ways)
@@ -323,7 +329,7 @@ module _ {S L P O R : Type 0} (F : Layouts S L P O R) (laws : AreLaws F) (declar
   pub empty_inside : AreOneWay F → (place : ℕ) (note : Note P O R) → slice_get v.notes place ≡ Some note → note.part ≡ None
       → (o i p : ℕ) → IsInside v.visitor.place o i → note.cell ≡ cell_of o i p → p < F.procs
       → (declaration layout : L) → slice_get declared o ≡ Some declaration → F.object_of layout ≡ F.object_of declaration → v.layout ≡ Some (F.tag_of layout)
-      → p < cells_of (F.tag_of layout) F.procs → IsPart F declared s note.cell (Some ((F.ways_of layout).empty F.procs p))
+      → p < cells_of (shape_of F layout) F.procs → IsPart F declared s note.cell (Some ((F.ways_of layout).empty F.procs p))
   empty_inside one_way place note e none o i p inside named lt declaration layout declares kind known' within' =
       let is = inside_present o i inside in
       empty_due o is.0 one_way note.cell p (named ∙ ap (λ j. cell_of o j p) is.1) lt ((knows.cells.notes place note e).part ∙ none) declaration layout declares kind
@@ -332,7 +338,7 @@ module _ {S L P O R : Type 0} (F : Layouts S L P O R) (laws : AreLaws F) (declar
   pub empty_moved : AreOneWay F → (place : ℕ) (note : Note P O R) → slice_get v.notes place ≡ Some note → note.part ≡ None
       → (o p : ℕ) → v.visitor.swap ≡ Moved o → v.handed ≡ None → note.cell ≡ cell_of o (incarnation_in (word_begun v.last)) p → p < F.procs
       → (declaration layout : L) → slice_get declared o ≡ Some declaration → F.object_of layout ≡ F.object_of declaration → F.tag_of layout ≡ layout_in (word_begun v.last)
-      → p < cells_of (F.tag_of layout) F.procs → IsPart F declared s note.cell (Some ((F.ways_of layout).empty F.procs p))
+      → p < cells_of (shape_of F layout) F.procs → IsPart F declared s note.cell (Some ((F.ways_of layout).empty F.procs p))
   empty_moved one_way place note e none o p swap unhanded named lt declaration layout declares kind tag within' =
       let is = moved_present o swap unhanded in
       empty_due o is.present one_way note.cell p (named ∙ ap (λ j. cell_of o j p) is.row) lt ((knows.cells.notes place note e).part ∙ none) declaration layout declares kind
@@ -356,13 +362,13 @@ module _ {S L P O R : Type 0} (F : Layouts S L P O R) (laws : AreLaws F) (declar
   pub empty_inside_always : AreOneWay F → (place : ℕ) (note : Note P O R) → slice_get v.notes place ≡ Some note → note.part ≡ None
       → (o i p : ℕ) → IsInside v.visitor.place o i → note.cell ≡ cell_of o i p → p < F.procs
       → (declaration layout : L) → slice_get declared o ≡ Some declaration → F.object_of layout ≡ F.object_of declaration → v.layout ≡ Some (F.tag_of layout)
-      → p < cells_of (F.tag_of layout) F.procs → Always F declared id v (λ s. IsPart F declared s note.cell (Some ((F.ways_of layout).empty F.procs p)))
+      → p < cells_of (shape_of F layout) F.procs → Always F declared id v (λ s. IsPart F declared s note.cell (Some ((F.ways_of layout).empty F.procs p)))
   empty_inside_always one_way place note e none o i p inside named lt declaration layout declares kind tag within' table r at =
       empty_inside F laws declared table r id v at one_way place note e none o i p inside named lt declaration layout declares kind tag within'
 
   pub empty_moved_always : AreOneWay F → (place : ℕ) (note : Note P O R) → slice_get v.notes place ≡ Some note → note.part ≡ None
       → (o p : ℕ) → v.visitor.swap ≡ Moved o → v.handed ≡ None → note.cell ≡ cell_of o (incarnation_in (word_begun v.last)) p → p < F.procs
       → (declaration layout : L) → slice_get declared o ≡ Some declaration → F.object_of layout ≡ F.object_of declaration → F.tag_of layout ≡ layout_in (word_begun v.last)
-      → p < cells_of (F.tag_of layout) F.procs → Always F declared id v (λ s. IsPart F declared s note.cell (Some ((F.ways_of layout).empty F.procs p)))
+      → p < cells_of (shape_of F layout) F.procs → Always F declared id v (λ s. IsPart F declared s note.cell (Some ((F.ways_of layout).empty F.procs p)))
   empty_moved_always one_way place note e none o p swap unhanded named lt declaration layout declares kind tag within' table r at =
       empty_moved F laws declared table r id v at one_way place note e none o p swap unhanded named lt declaration layout declares kind tag within'

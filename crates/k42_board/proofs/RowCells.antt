@@ -1,11 +1,11 @@
 -- The cells of a row, and its parts one by one.
-use Rattle.std.proofs.Common.{◌≡◌, ◌≢◌, ◌⊎◌, ℕ, zero, suc, ◌+◌, ◌/◌, ◌%◌, ◌<◌, ◌≤◌, Bool, true, false, not, cond, eqb, List, [], ◌∷◌, Option, Some, None, length, sym, refl, ap, ◌∙◌, inl, inr, arith}
+use Rattle.std.proofs.Common.{◌≡◌, ◌≢◌, ◌⊎◌, ℕ, zero, suc, ◌+◌, ◌/◌, ◌%◌, ◌<◌, ◌≤◌, Bool, true, false, not, List, [], ◌∷◌, Option, Some, None, length, sym, refl, ap, ◌∙◌, inl, inr, arith}
 use Rattle.std.specs.List.{slice_get}
 use Rattle.std.specs.Prelude.{unwrap_or}
 use Rattle.std.proofs.lemmas.Option.{same_Some}
 use mathlib.Core.Logic.{dite}
 use native.Mathlib.Decide.{ℕ_discrete}
-use Rattle.k42_kinds.specs.Rows.{Ways, made_from, part_at, changed_at, cells_of}
+use Rattle.k42_kinds.specs.Rows.{Ways, made_from, part_at, changed_at}
 use Rattle.turn_core.specs.Names.{names, names_once}
 use Rattle.turn_core.specs.Events.{names_some}
 use Rattle.k42_joined.specs.Numbers.{cell_of, object_of, place_of, row_cells}
@@ -112,9 +112,3 @@ due_value ways procs place (Some own) d due = due
 pub due_none : {S P O R : Type 0} (ways : Ways S P O R) (procs place : ℕ) (own : Option P) → HasDue ways procs place own None → own ≡ None
 due_none ways procs place None due = refl
 due_none ways procs place (Some own) due = absurd due
-
-pub few_cells_of : (tag procs : ℕ) → 0 < procs → cells_of tag procs ≤ procs
-few_cells_of tag procs some = go (eqb tag 1) where
-  go : (b : Bool) → cond b procs 1 ≤ procs
-  go true = omega arith
-  go false = omega (arith, some)

@@ -69,7 +69,7 @@ none_there is = let few = is.few in omega (arith, few)
 -- a new pass, and one that has drawn alone
 
 abbrev new : PassView ℕ Op Reply
-new = new_pass 1 1 0 0
+new = new_pass 1 ([] ∷ []) 0 0
 
 abbrev late : PassView ℕ Op Reply
 late = alone_view (stamped 3) new

@@ -132,6 +132,7 @@ module _ {S L P O R : Type 0} (F : Layouts S L P O R) (laws : AreLaws F) (declar
     };
     phases = record {
       visitor = k.phases.visitor;
+      shapes = k.phases.shapes;
       layout = k.phases.layout;
       learned = k.phases.learned;
       swap = record {

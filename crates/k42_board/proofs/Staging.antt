@@ -34,8 +34,8 @@ use Rattle.k42_board.specs.Cells.{Slot}
 use Rattle.k42_board.specs.Phases.{IsOld, KnowsSwap, KnowsRows}
 use Rattle.k42_board.specs.Rule.{NamesRows, KnowsPass, Rule}
 use Rattle.k42_board.specs.Swapping.{object_swapped}
-use Rattle.k42_board.specs.Values.{layout_in, incarnation_in, answer_in}
-use Rattle.k42_board.specs.Views.{kept_in, begun_of, word_begun, object_begun}
+use Rattle.k42_board.specs.Values.{layout_in, incarnation_in}
+use Rattle.k42_board.specs.Views.{kept_in, begun_of, word_begun, object_begun, answer_begun, live_at}
 use Rattle.k42_board.specs.declared.view.LastBegin.{LastBegin}
 use Rattle.k42_board.specs.declared.view.PassView.{PassView}
 use Rattle.k42_board.specs.declared.view.Row.{Row}
@@ -46,6 +46,7 @@ use Rattle.k42_board.proofs.OnePass.{known}
 
 -- what becomes of an object, of which the state is so
 pub record IsStaged {L O R : Type 0} (s : Joined L O R) (o : ℕ) (k' : Object) : Type 0 where
+  pub shapes : k'.shapes ≡ (object_at s.phases o).shapes
   pub freed : k'.freed ≡ (object_at s.phases o).freed
   pub old :
       (i : ℕ) → i < (object_at s.phases o).incarnation
@@ -60,6 +61,7 @@ pub record IsStaged {L O R : Type 0} (s : Joined L O R) (o : ℕ) (k' : Object) 
 
 -- an object that stays in its row
 pub record StaysInRow (k k' : Object) : Type 0 where
+  pub shapes : k'.shapes ≡ k.shapes
   pub layout : k'.layout ≡ k.layout
   pub incarnation : k'.incarnation ≡ k.incarnation
   pub freed : k'.freed ≡ k.freed
@@ -67,6 +69,7 @@ pub record StaysInRow (k k' : Object) : Type 0 where
 
 pub stays_staged : {L O R : Type 0} (s : Joined L O R) (o : ℕ) (k' : Object) → StaysInRow (object_at s.phases o) k' → IsStaged s o k'
 stays_staged s o k' stays = record {
+  shapes = stays.shapes;
   freed = stays.freed;
   old = λ i lt ended. (rw stays.incarnation lt, λ done. rw stays.incarnation (ended (stays.complete done)));
   inside = λ d i there inside. stays.layout;
@@ -76,11 +79,11 @@ stays_staged s o k' stays = record {
 
 -- what is true of an object that is over
 over_is : {R : Type 0} (k : Object) (i : ℕ) (answer : Answer R) → tells_over answer ≡ true → IsTrueOf k i answer → is_over k ≡ true
-over_is k i Spent tells is = rw (eq-eqb k.incarnation LAST_INCARNATION is.1) (or_true (eqb k.layout 2)) where
+over_is k i Spent tells is = rw (eq-eqb k.incarnation LAST_INCARNATION is.1) (or_true (eqb k.layout (length k.shapes))) where
   or_true : (b : Bool) → b || true ≡ true
   or_true true = refl
   or_true false = refl
-over_is k i Gone tells is = rw (eq-eqb k.layout 2 is.1) refl
+over_is k i Gone tells is = rw (eq-eqb k.layout (length k.shapes) is.1) refl
 over_is k i answer tells is = absurd (cc)
 
 module _ {S L P O R : Type 0} (F : Layouts S L P O R) (laws : AreLaws F) (declared : List L)
@@ -113,7 +116,7 @@ module _ {S L P O R : Type 0} (F : Layouts S L P O R) (laws : AreLaws F) (declar
   found_over j y was answer e tells = by_last y.last refl where
     by_last : (last : Option LastBegin) → y.last ≡ last → is_over (object_at s (object_begun last)) ≡ true
     by_last None is =
-        absurd (let none : answer_in (word_begun None) ≡ Some answer = ap (λ z. answer_in (word_begun z)) (sym is) ∙ was.trace.found answer e in cc)
+        absurd (let none : answer_begun (live_at y) None ≡ Some answer = ap (λ z. answer_begun (live_at y) z) (sym is) ∙ was.trace.found answer e in cc)
     by_last (Some begin) is =
         let kept = was.trace.kept in
         over_is (object_at s begin.object) (object_at s begin.object).incarnation answer tells
@@ -136,10 +139,10 @@ module _ {S L P O R : Type 0} (F : Layouts S L P O R) (laws : AreLaws F) (declar
         (ap (λ (z : Visitor). named_by z.swap) was.phases.visitor ∙ names) (ap named_by stage_is ∙ named))
 
     -- its bits, its layout and its incarnation follow the stage
-    pub bits : BitsFollow (bits_of k) k.layout k.incarnation v.visitor.swap
+    pub bits : BitsFollow (bits_of k) k.shapes k.layout k.incarnation v.visitor.swap
     bits =
         let own = (visitor_known s r.sound.phases c knows.there).swap_alone.owned o (ap named_by stage_is ∙ named) in
-        subst (BitsFollow (bits_of k) k.layout k.incarnation) (own.1 ∙ stage_is) (object_known s r.sound.phases o there).bits_follow.bits
+        subst (BitsFollow (bits_of k) k.shapes k.layout k.incarnation) (own.1 ∙ stage_is) (object_known s r.sound.phases o there).bits_follow.bits
 
     pub swap_is_set : k.swap ≡ true
     swap_is_set = (one_swap s r.sound.phases o there).set c knows.there (ap named_by stage_is ∙ named)
@@ -191,6 +194,7 @@ module _ {S L P O R : Type 0} (F : Layouts S L P O R) (laws : AreLaws F) (declar
               by_object (λ q l. (i : ℕ) → (i < (object_at s q).incarnation) × ((object_at s q).complete ≡ true → i + 1 < (object_at s q).incarnation)
               → (i < l.incarnation) × (l.complete ≡ true → i + 1 < l.incarnation))
               (λ i old. staged.old i old.0 old.1) (λ q not i old. old) row.object row.incarnation;
+          shapes = by_object (λ q l. l.shapes ≡ (object_at s q).shapes) staged.shapes (λ q not. refl);
           freed =
               by_object (λ q l. (object_at s q).freed ≤ l.freed) (let same = staged.freed in omega (arith, same)) (λ q not. le_refl (object_at s q).freed);
         }
@@ -272,6 +276,7 @@ module _ {S L P O R : Type 0} (F : Layouts S L P O R) (laws : AreLaws F) (declar
               stage_after v.last v.found abandoned turned v.layout handed rows naming (length-set s.callers c stage_after) names
               (record {
                 visitor = get_or-set_same s.callers c stage_after fresh_visitor knows.there;
+                shapes = λ q. knows.phases.shapes q ∙ sym (on.shapes q);
                 layout = λ l q i e inside.
                     inside_stays c knows.there q i (subst (λ (z : Visitor). IsInside z.place q i) (sym knows.phases.visitor) inside) ∙ knows.phases.layout l q i e inside;
                 learned = knows.phases.learned;

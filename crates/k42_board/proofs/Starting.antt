@@ -4,6 +4,7 @@ use Rattle.std.specs.List.{slice_get, slice_index}
 use Rattle.std.proofs.lemmas.Bool.{cases_eq}
 use Rattle.std.proofs.lemmas.List.{length-replicate}
 use Rattle.std.proofs.lemmas.Option.{same_Some, slice_get_within, slice_get-get_or}
+use Rattle.k42_shapes.specs.declared.shape.Shape.{Shape}
 use Rattle.k42_places.specs.Places.{EachPlace}
 use Rattle.atomic_table.specs.Seated.{TableId}
 use Rattle.k42_places.proofs.Appended.{at_push}
@@ -59,48 +60,51 @@ slots_more {P} slots n c many is first place slot e =
     (λ new. (c, sym new.1, subst (λ m. IsCell m [] false None c) (ap number_in (sym (new.0 ∙ many))) is))
     (at_push slots (Some c) place slot e)
 
-pub dealer_next : {P O R : Type 0} (procs objects n : ℕ) (homes : List ℕ) → n < length homes
-    → dealer (Crew (new_passes {P = P} {O = O} {R = R} procs objects n (drop n homes))) ≡ Crew (new_passes procs objects (n + 1) (drop (n + 1) homes))
-dealer_next {P} {O} {R} procs objects n homes lt =
-    ap (λ (l : List ℕ). dealer (Crew (new_passes {P = P} {O = O} {R = R} procs objects n l))) (drop_at homes n (get_or homes n 0) (slice_get-get_or homes n 0 lt))
+pub dealer_next : {P O R : Type 0} (procs : ℕ) (shapes : List (List Shape)) (n : ℕ) (homes : List ℕ) → n < length homes
+    → dealer (Crew (new_passes {P = P} {O = O} {R = R} procs shapes n (drop n homes))) ≡ Crew (new_passes procs shapes (n + 1) (drop (n + 1) homes))
+dealer_next {P} {O} {R} procs shapes n homes lt =
+    ap (λ (l : List ℕ). dealer (Crew (new_passes {P = P} {O = O} {R = R} procs shapes n l))) (drop_at homes n (get_or homes n 0) (slice_get-get_or homes n 0 lt))
 
-pub deals_more : {P O R : Type 0} (table : TableId) (queue : QueueId) (keep : Keep) (procs objects : ℕ) (homes : List ℕ) (n : ℕ) (seat seat' : TableId) (me me' : Seated P O R) (passes : List (PassSeen P O R)) (pass : PassSeen P O R)
-    → n < length homes → seat' ≡ seat → me' ≡ (dealer me.0, []) → IsNewPass table queue keep procs objects n (slice_index homes n) pass
-    → IsDealing table queue keep procs objects homes n seat me passes → IsDealing table queue keep procs objects homes (n + 1) seat' me' (passes ++ pass ∷ [])
-deals_more {P} {O} {R} table queue keep procs objects homes n seat seat' me me' passes pass lt same moved new h = record {
+pub deals_more : {P O R : Type 0} (table : TableId) (queue : QueueId) (keep : Keep) (procs : ℕ) (shapes : List (List Shape)) (homes : List ℕ) (n : ℕ) (seat seat' : TableId) (me me' : Seated P O R) (passes : List (PassSeen P O R)) (pass : PassSeen P O R)
+    → n < length homes → seat' ≡ seat → me' ≡ (dealer me.0, []) → IsNewPass table queue keep procs shapes n (slice_index homes n) pass
+    → IsDealing table queue keep procs shapes homes n seat me passes → IsDealing table queue keep procs shapes homes (n + 1) seat' me' (passes ++ pass ∷ [])
+deals_more {P} {O} {R} table queue keep procs shapes homes n seat seat' me me' passes pass lt same moved new h = record {
   ours = same ∙ h.ours;
-  crew = moved ∙ ap (λ (m : Seated P O R). (dealer m.0, [])) h.crew ∙ ap (λ (w : View P O R). (w, [])) (dealer_next procs objects n homes lt);
+  crew = moved ∙ ap (λ (m : Seated P O R). (dealer m.0, [])) h.crew ∙ ap (λ (w : View P O R). (w, [])) (dealer_next procs shapes n homes lt);
   many = length-append passes (pass ∷ []) ∙ (let many = h.many in omega (arith, many));
   each = λ c p e.
       ⊎_elim
       (λ old. h.each c p old.1)
-      (λ last. subst (λ (z : ℕ × PassSeen P O R). IsNewPass table queue keep procs objects z.0 (slice_index homes z.0) z.1) (λ i. (sym (last.0 ∙ h.many) i, last.1 i)) new)
+      (λ last. subst (λ (z : ℕ × PassSeen P O R). IsNewPass table queue keep procs shapes z.0 (slice_index homes z.0) z.1) (λ i. (sym (last.0 ∙ h.many) i, last.1 i)) new)
       (at_push passes pass c p e);
 }
 
 -- a new pass is one of its system
-pub is_of_system : {L P O R : Type 0} (sys : SysSeen L) (number home : ℕ) (pass : PassSeen P O R) → home < sys.procs
-    → IsNewPass sys.table sys.queue sys.keep sys.procs (length sys.layouts) number home pass → IsPassOf sys pass
-is_of_system {L} {P} {O} {R} sys number home pass there is = record {
+pub is_of_system : {L P O R : Type 0} (sys : SysSeen L) (number home : ℕ) (pass : PassSeen P O R) → home < sys.procs → length sys.shapes ≡ length sys.layouts
+    → IsNewPass sys.table sys.queue sys.keep sys.procs sys.shapes number home pass → IsPassOf sys pass
+is_of_system {L} {P} {O} {R} sys number home pass there shaped is = record {
   table = is.ours;
   queue = is.posted;
   keep = ap (λ (k : Keeping). k.what) is.keeps;
   proc = rw is.new there;
   waits = ap (λ (v : PassView P O R). length v.turn.waits) is.new ∙ length-replicate sys.procs 0;
-  objects = ap (λ (v : PassView P O R). length v.visitor.noted) is.new ∙ length-replicate (length sys.layouts) None;
-  spans = ap (λ (v : PassView P O R). length v.visitor.freeing) is.new ∙ length-replicate (length sys.layouts) (0, 0);
+  objects = ap (λ (v : PassView P O R). length v.visitor.noted) is.new ∙ length-replicate (length sys.shapes) None ∙ shaped;
+  shapes = ap (λ (v : PassView P O R). v.shapes) is.new;
+  spans = ap (λ (v : PassView P O R). length v.visitor.freeing) is.new ∙ length-replicate (length sys.shapes) (0, 0) ∙ shaped;
 }
 
 pub is_started : {L P O R : Type 0} (layouts : List L) (procs : ℕ) (callers : List ℕ) (sys : SysSeen L) (passes : List (PassSeen P O R))
-    → sys.procs ≡ procs → sys.layouts ≡ layouts → sys.callers ≡ callers → EachPlace (λ c p. p < procs) callers
-    → AreDealt sys.table sys.queue sys.keep procs (length layouts) callers passes → IsStarted layouts procs callers sys passes
-is_started layouts procs callers sys passes procs_are layouts_are callers_are placed dealt = record {
+    → sys.procs ≡ procs → sys.layouts ≡ layouts → length sys.shapes ≡ length layouts → sys.callers ≡ callers → EachPlace (λ c p. p < procs) callers
+    → AreDealt sys.table sys.queue sys.keep procs sys.shapes callers passes → IsStarted layouts procs callers sys passes
+is_started layouts procs callers sys passes procs_are layouts_are shaped callers_are placed dealt = record {
   procs_are = procs_are;
   layouts_are = layouts_are;
+  shaped = shaped;
   callers_are = callers_are;
   dealt = dealt;
   passes_are = λ c pass e.
       let there : c < length callers = let lt = slice_get_within passes c pass e in let many = dealt.many in omega (arith, lt, many) in
       is_of_system sys c (slice_index callers c) pass (rw procs_are (placed c (slice_index callers c) (slice_get-get_or callers c 0 there)))
-      (rw (procs_are, layouts_are) (dealt.each c pass e));
+      (shaped ∙ sym (ap length layouts_are))
+      (rw procs_are (dealt.each c pass e));
 }

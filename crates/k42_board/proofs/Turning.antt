@@ -166,6 +166,7 @@ module _ {L O R : Type 0} (s : Joined L O R) (g : Generations) (visitors : List 
       generations = own.generations;
       phases = record {
         visitor = own.visitor_is;
+        shapes = knows.phases.shapes;
         layout = rw own.place knows.phases.layout;
         learned = rw own.place knows.phases.learned;
         swap = swap_goes own.swap knows.phases.swap;

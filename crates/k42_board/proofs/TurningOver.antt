@@ -4,6 +4,7 @@ use Rattle.std.proofs.lemmas.Bool.{eqb-true, le-leb}
 use Rattle.std.proofs.lemmas.Option.{slice_get-get_or}
 use mathlib.Core.Option.{some}
 use lib.ListN.{get_elem?}
+use Rattle.k42_shapes.specs.declared.shape.Shape.{Shape}
 use Rattle.atomic_table.specs.Table.{State, Step, Allows}
 use Rattle.k42_limits.specs.declared.TheConstants.{LAST_INCARNATION}
 use Rattle.phase_core.specs.Effects.{at_stage, is_over, turned_over}
@@ -54,22 +55,22 @@ pub record IsMoving (swap : SwapAt) : Type 0 where
   pub named : named_by swap ≡ Some (object_named swap)
   pub unturned : (k : Object) → is_turned swap k ≡ false
   pub bits_are :
-      (b : Bits) (layout incarnation : ℕ) → BitsFollow b layout incarnation swap
-      → ((b.block ≡ true) × (b.moving ≡ true) × (b.complete ≡ false)) × IsLive layout incarnation
+      (b : Bits) (shapes : List Shape) (layout incarnation : ℕ) → BitsFollow b shapes layout incarnation swap
+      → ((b.block ≡ true) × (b.moving ≡ true) × (b.complete ≡ false)) × IsLive shapes layout incarnation
 
 pub moving_is : (swap : SwapAt) → is_moved swap ≡ true → IsMoving swap
-moving_is (Moved o) e = record { moved = refl; named = refl; unturned = λ k. refl; bits_are = λ b layout incarnation is. is }
+moving_is (Moved o) e = record { moved = refl; named = refl; unturned = λ k. refl; bits_are = λ b shapes layout incarnation is. is }
 moving_is swap e = absurd (cc)
 
 -- an object that is alive and has a next incarnation is not over
-not_over : (k : Object) → IsLive k.layout k.incarnation → is_over k ≡ true → ⊥
-not_over k live e = by_test (eqb k.layout 2) refl e where
-  by_test : (a : Bool) → eqb k.layout 2 ≡ a → a || eqb k.incarnation LAST_INCARNATION ≡ true → ⊥
-  by_test true is or = let same = eqb-true k.layout 2 is in let lt = live.0 in absurd (omega (arith, same, lt))
+not_over : (k : Object) → IsLive k.shapes k.layout k.incarnation → is_over k ≡ true → ⊥
+not_over k live e = by_test (eqb k.layout (length k.shapes)) refl e where
+  by_test : (a : Bool) → eqb k.layout (length k.shapes) ≡ a → a || eqb k.incarnation LAST_INCARNATION ≡ true → ⊥
+  by_test true is or = let same = eqb-true k.layout (length k.shapes) is in let lt = live.0 in absurd (omega (arith, same, lt))
   by_test false is or = let same = eqb-true k.incarnation LAST_INCARNATION or in let lt = live.1 in absurd (omega (arith, same, lt))
 
 -- the word with the next incarnation and this layout
-turned_value : (k : Object) (word tag : ℕ) → Fits k → (k.block ≡ true) × (k.moving ≡ true) × (k.complete ≡ false) → tag ≤ 2 → word ≡ object_value k
+turned_value : (k : Object) (word tag : ℕ) → Fits k → (k.block ≡ true) × (k.moving ≡ true) × (k.complete ≡ false) → tag < 16 → word ≡ object_value k
     → (word + (2 ^ 32 + 2 ^ 28 * tag + 2 ^ 25 - 2 ^ 28 * k.layout)) % 2 ^ 64 ≡ object_value (turned_over k tag)
 turned_value k word tag fits are most is =
     let a : bit k.swap ≤ 1 = bit_small k.swap in let b : bit k.block ≡ 1 = ap bit are.0 in
@@ -109,8 +110,8 @@ module _ {S L P O R : Type 0} (F : Layouts S L P O R) (laws : AreLaws F) (declar
   pub fits : Fits k
   fits = object_fits s r.sound.phases o o_there
 
-  pub bits_are : ((k.block ≡ true) × (k.moving ≡ true) × (k.complete ≡ false)) × IsLive k.layout k.incarnation
-  bits_are = stage.bits_are _ _ _ (bits F laws declared table r id v at stage.named)
+  pub bits_are : ((k.block ≡ true) × (k.moving ≡ true) × (k.complete ≡ false)) × IsLive k.shapes k.layout k.incarnation
+  bits_are = stage.bits_are _ _ _ _ (bits F laws declared table r id v at stage.named)
 
   pub unturned : v.turned ≡ false
   unturned = knows.phases.swap.turned ∙ stage.unturned k
@@ -138,6 +139,7 @@ module _ {S L P O R : Type 0} (F : Layouts S L P O R) (laws : AreLaws F) (declar
 
     staged : IsStaged r.state o k'
     staged = record {
+      shapes = refl;
       freed = refl;
       old = λ i lt ended. (omega (arith, lt), λ done. omega (arith, lt));
       inside = λ d i lt inside. absurd (not_inside d i lt inside);
@@ -145,12 +147,29 @@ module _ {S L P O R : Type 0} (F : Layouts S L P O R) (laws : AreLaws F) (declar
       over = λ e. absurd (not_over k bits_are.1 e);
     }
 
+    -- the object has a layout with this tag, which fits into its word
+    known_here : tag ≤ length k.shapes
+    known_here = subst (λ (shapes : List Shape). tag ≤ length shapes) (knows.phases.shapes o) may.known
+
+    tag_small : tag < 16
+    tag_small =
+        let few = (object_known s r.sound.phases o o_there).bits_follow.few in let most = known_here in omega (arith, few, most)
+
+    known_there : tag ≤ length (object_at s (object_named (visitor_at s c).swap)).shapes
+    known_there =
+        subst (λ (swap : SwapAt). tag ≤ length (object_at s (object_named swap)).shapes) (sym (stage_is F laws declared table r id v at)) known_here
+
     possible : IsPossible F declared r.state (AtPhases (TurnOver c tag))
     possible = record {
       caller = knows.there;
       may = record {
         objects = tt;
-        core = rw (ap is_moved (stage_is F laws declared table r id v at) ∙ moves, le-leb tag 2 may.known) refl;
+        core =
+            rw (
+              ap is_moved (stage_is F laws declared table r id v at) ∙ moves,
+              le-leb tag (length (object_at s (object_named (visitor_at s c).swap)).shapes) known_there,
+            )
+            refl;
         beside =
             rw (
               ap (λ (z : turns.Caller O R). holds_none z.held) knows.cells.taker ∙ may.free,
@@ -187,7 +206,7 @@ module _ {S L P O R : Type 0} (F : Layouts S L P O R) (laws : AreLaws F) (declar
     value : (found + turn_amount tag v) % 2 ^ 64 ≡ object_value k'
     value =
         ap (λ z. (found + (2 ^ 32 + 2 ^ 28 * tag + 2 ^ 25 - 2 ^ 28 * z)) % 2 ^ 64) (knows.phases.swap.layout_begun o stage.named unturned)
-        ∙ turned_value k found tag fits bits_are.0 may.known (object_shown F laws declared table r id v at o o_there)
+        ∙ turned_value k found tag fits bits_are.0 tag_small (object_shown F laws declared table r id v at o o_there)
 
     pub turns_over : Steps F declared r.state (AtPhases (TurnOver c tag)) (with_pass table (set table.words (object_word o) ((found + turn_amount tag v) % 2 ^ 64)) table.homes id (turned_view v))
     turns_over =

@@ -1,9 +1,11 @@
 -- Drawing entries, for one pass: the entry, where it may be drawn, and what the pass and its cells tell after it.
 use Rattle.std.specs.Prelude.{◌≡◌, ◌⊎◌, ℕ, ◌+◌, ◌-◌, ◌<◌, ◌≤◌, ◌==◌, ◌||◌, Bool, true, false, not, IsTrue, if◌then◌else◌, List, [], ◌∷◌, ◌++◌, length, map, max, Option, Some, None, slice_get, unwrap_or}
+use Rattle.k42_shapes.specs.declared.shape.Shape.{Shape}
 use Rattle.k42_limits.specs.declared.TheConstants.{LAST_STAMP, PASS_ENTRIES}
 use Rattle.k42_places.specs.Places.{EachPlace, EachPair}
 use Rattle.k42_kinds.specs.Histories.{is_call}
-use Rattle.k42_kinds.specs.Rows.{Ways, cells_of, made_from, part_at}
+use Rattle.k42_kinds.specs.Rows.{Ways, made_from, part_at}
+use Rattle.k42_shapes.specs.Shapes.{cells_of}
 use Rattle.k42_kinds.specs.declared.entry.Act.{Act}
 use Rattle.k42_kinds.specs.declared.entry.Act.TheVariants.{Call}
 use Rattle.k42_kinds.specs.declared.entry.Answer.{Answer}
@@ -17,7 +19,7 @@ use Rattle.phase_core.specs.declared.caller.SwapAt.TheVariants.{Moved, Reopening
 use Rattle.turn_core.specs.Events.{caller_drawn}
 use Rattle.turn_core.specs.Names.{names}
 use Rattle.turn_core.specs.Stamps.{last_stamp}
-use Rattle.k42_stamp.specs.Layouts.{Layouts}
+use Rattle.k42_stamp.specs.Layouts.{Layouts, IsKnown, shape_of}
 use Rattle.k42_joined.specs.Drawing.{first_cell}
 use Rattle.k42_joined.specs.Found.{tells_over}
 use Rattle.k42_joined.specs.Numbers.{cell_of, row_cells}
@@ -50,8 +52,8 @@ part_noted (note ∷ notes) n = if note.cell == n then note.part else part_noted
 abbrev pub part_due : {S P O R : Type 0} → Ways S P O R → ℕ → List (Note P O R) → ℕ → ℕ → ℕ → P
 part_due ways procs notes o i p = unwrap_or (part_noted notes (cell_of o i p)) (ways.empty procs p)
 
-abbrev pub parts_due : {S P O R : Type 0} → Ways S P O R → ℕ → List (Note P O R) → ℕ → ℕ → ℕ → List P
-parts_due ways procs notes o i tag = made_from (part_due ways procs notes o i) 0 (cells_of tag procs)
+abbrev pub parts_due : {S P O R : Type 0} → Ways S P O R → ℕ → List (Note P O R) → ℕ → ℕ → Shape → List P
+parts_due ways procs notes o i shape = made_from (part_due ways procs notes o i) 0 (cells_of shape procs)
 
 -- the stamp that a draw bears: one more than the last that the pass and these cells know
 
@@ -255,7 +257,7 @@ module _ {S L P O R : Type 0} (F : Layouts S L P O R) (declared : List L) where
       × EachPlace (λ place content. content.part ≡ Some (ways.part_after part op)) contents
   IsStepped layout notes o i contents op All reply =
       let ways = F.ways_of layout in
-      let parts = parts_due ways F.procs notes o i (F.tag_of layout) in
+      let parts = parts_due ways F.procs notes o i (shape_of F layout) in
       (reply ≡ ways.row_reply parts op) × HaveParts (ways.row_after parts op) contents
 
   -- A call is inside a row whose layout it knows, and has stepped its operation at the cells that the layout names.
@@ -279,7 +281,7 @@ module _ {S L P O R : Type 0} (F : Layouts S L P O R) (declared : List L) where
   -- the parts that are due in the row which the pass moves
   abbrev pub parts_moved : L → PassView P O R → ℕ → List P
   parts_moved layout v o =
-      parts_due (F.ways_of layout) F.procs v.notes o (incarnation_in (word_begun v.last)) (F.tag_of layout)
+      parts_due (F.ways_of layout) F.procs v.notes o (incarnation_in (word_begun v.last)) (shape_of F layout)
 
   -- the cell of a row that is handed on keeps its part; a missing one may be made
   abbrev pub KeepsPart : List (Note P O R) → List P → ℕ → Content P O R → Type 0
@@ -295,7 +297,7 @@ module _ {S L P O R : Type 0} (F : Layouts S L P O R) (declared : List L) where
     pub declaration : L
     pub declares : slice_get declared object ≡ Some declaration
     pub kind : F.object_of to ≡ F.object_of declaration
-    pub known : F.tag_of to ≤ 2
+    pub known : IsKnown F to
     pub layout : L
     pub same : F.object_of layout ≡ F.object_of declaration
     pub tagged : F.tag_of layout ≡ layout_in (word_begun v.last)

@@ -10,7 +10,7 @@ use Rattle.k42_joined.specs.Answers.{is_turned}
 use Rattle.k42_board.specs.Log.{has_swept}
 use Rattle.k42_board.specs.Words.{object_word, freed_word, local_word}
 use Rattle.k42_board.specs.Values.{object_value, local_value, layout_in, incarnation_in}
-use Rattle.k42_board.specs.Views.{word_begun}
+use Rattle.k42_board.specs.Views.{shapes_at, word_begun}
 use Rattle.k42_board.specs.declared.view.PassView.{PassView}
 use Rattle.k42_board.specs.declared.view.Row.{Row}
 
@@ -76,6 +76,8 @@ pub record KnowsRows {P O R : Type 0} (s : Phases) (v : PassView P O R) : Type 0
 
 pub record KnowsPhases {P O R : Type 0} (s : Phases) (v : PassView P O R) : Type 0 where
   pub visitor : visitor_at s v.number ≡ v.visitor
+  -- which layouts each object has
+  pub shapes : (o : ℕ) → shapes_at v o ≡ (object_at s o).shapes
   -- the layout that it has learned is that of the row which it is inside
   pub layout :
       (l o i : ℕ) → v.layout ≡ Some l → IsInside v.visitor.place o i → (object_at s o).layout ≡ l

@@ -127,7 +127,7 @@ module _ {S L P : Type 0} where
     word = local_word v.turn.proc o;
     changed = λ word. word;
     May = λ F declared. MayLookUp (length declared) o v;
-    Finds = λ found. EntryFound v found;
+    Finds = λ found. EntryFound o v found;
     after = λ found. took steps.LookUp (local_word v.turn.proc o) found (looked_up_view o found v);
   }
 
@@ -138,7 +138,7 @@ module _ {S L P : Type 0} where
     word = object_word o;
     changed = λ word. word;
     May = λ F declared. MayLoadRoot (length declared) o v;
-    Finds = λ found. RootFound v found;
+    Finds = λ found. RootFound o v found;
     after = λ found. took steps.LoadRoot (object_word o) found (rooted_view found v);
   }
 
@@ -147,7 +147,7 @@ module _ {S L P : Type 0} where
   install o cell v = record {
     event = Some (AtPhases (phases.Install v.number o));
     word = local_word v.turn.proc o;
-    changed = installs v;
+    changed = installs o v;
     May = λ F declared. MayInstall (length declared) o cell v;
     Finds = λ found. ⊤;
     after = λ found. took steps.Install (local_word v.turn.proc o) found (installed_view o found v);
@@ -171,7 +171,7 @@ module _ {S L P : Type 0} where
     word = object_word o;
     changed = λ word. (word + 1) % 2 ^ 64;
     May = λ F declared. MayKnock (length declared) o v;
-    Finds = λ found. ObjectFound v found;
+    Finds = λ found. ObjectFound o v found;
     after = λ found. took steps.Knock (object_word o) found (knocked_view o found v);
   }
 
@@ -195,7 +195,7 @@ module _ {S L P : Type 0} where
     word = object_word o;
     changed = λ word. bit_or word 16777216;
     May = λ F declared. MayBegin (length declared) o v;
-    Finds = λ found. ObjectFound v found;
+    Finds = λ found. ObjectFound o v found;
     after = λ found. took steps.Begin (object_word o) found (begun_view o found v);
   }
 

@@ -1,6 +1,7 @@
 -- Systems and passes, as contracts see them.
 use Rattle.std.specs.Prelude.{◌≡◌, ◌+◌, ◌<◌, ◌≤◌, ℕ, ◌&&◌, Bool, true, false, List, [], ◌∷◌, ◌++◌, Option, None, drop, is_none, length, take, unwrap_or}
 use Rattle.std.specs.Global.{Global}
+use Rattle.k42_shapes.specs.declared.shape.Shape.{Shape}
 use Rattle.atomic_table.specs.Seated.{TableId}
 use Rattle.crossbeam_queue.specs.SegTies.{SegId}
 use Rattle.gen_core.specs.Events as graces
@@ -32,6 +33,8 @@ pub record SysSeen (L : Type 0) : Type 0 where
   pub keep : Keep
   pub procs : ℕ
   pub layouts : List L
+  -- those of each object's live layouts
+  pub shapes : List (List Shape)
   pub callers : List ℕ
 
 -- which of its entries a pass keeps, how many it has given to sections, and the stamp to which the last of these has raised
@@ -157,6 +160,7 @@ pub record IsPassOf {L P O R : Type 0} (sys : SysSeen L) (pass : PassSeen P O R)
   pub proc : pass.view.turn.proc < sys.procs
   pub waits : length pass.view.turn.waits ≡ sys.procs
   pub objects : length pass.view.visitor.noted ≡ length sys.layouts
+  pub shapes : pass.view.shapes ≡ sys.shapes
   pub spans : length pass.view.visitor.freeing ≡ length sys.layouts
   pub queue : pass.queue ≡ sys.queue
   pub keep : pass.keep.what ≡ sys.keep

@@ -1,5 +1,7 @@
 -- The steps of a swap, for one pass: where each may be taken, and what the pass knows after it.
-use Rattle.std.specs.Prelude.{◌≡◌, ◌⊎◌, ℕ, ◌+◌, ◌-◌, ◌*◌, ◌<◌, ◌≤◌, ◌^◌, ◌==◌, if◌then◌else◌, Bool, true, false, List, [], ◌∷◌, ◌++◌, Option, Some, None, is_some, not, bit_and, length}
+use Rattle.std.specs.Prelude.{◌≡◌, ◌⊎◌, ℕ, ◌+◌, ◌-◌, ◌*◌, ◌<◌, ◌≤◌, ◌^◌, ◌==◌, if◌then◌else◌, Bool, true, false, List, [], ◌∷◌, ◌++◌, Option, Some, None, is_some, not, bit_and, length, slice_index_or, unwrap_or}
+use Rattle.k42_shapes.specs.declared.shape.Shape.{Shape}
+use Rattle.k42_shapes.specs.Shapes.{IsKnownTag, IsLiveTag}
 use Rattle.gen_core.specs.Events as graces
 use Rattle.phase_core.specs.Effects.{at_stage, after_interpose, after_open, after_reopen}
 use Rattle.phase_core.specs.Event.{Event, Interpose, Open, Unblock, Clear}
@@ -10,7 +12,7 @@ use Rattle.phase_core.specs.declared.caller.SwapAt.TheVariants.{Idle, Refused, B
 use Rattle.k42_limits.specs.declared.TheConstants.{CALLERS, LAST_INCARNATION}
 use Rattle.k42_joined.specs.Swapping.{holds_none}
 use Rattle.k42_board.specs.Values.{local_value, has_bit, count_in, layout_in, incarnation_in}
-use Rattle.k42_board.specs.Views.{object_begun, word_begun}
+use Rattle.k42_board.specs.Views.{object_begun, word_begun, shapes_at}
 use Rattle.k42_board.specs.declared.view.LastBegin.{LastBegin}
 use Rattle.k42_board.specs.declared.view.PassView.{PassView}
 use Rattle.k42_board.specs.declared.view.Row.{Row}
@@ -90,7 +92,7 @@ pub record CountFound {P O R : Type 0} (v : PassView P O R) (found : ℕ) : Type
 pub record MayTurnOver {P O R : Type 0} (tag : ℕ) (v : PassView P O R) : Type 0 where
   pub moved : is_moved v.visitor.swap ≡ true
   pub handed : v.handed ≡ Some tag
-  pub known : tag ≤ 2
+  pub known : IsKnownTag (shapes_at v (object_swapped v)) tag
   pub free : holds_none v.taker.held ≡ true
 
 -- what is added to the word: one incarnation, COMPLETE for BLOCK and MOVE, and the new layout for the old
@@ -169,16 +171,17 @@ is_in_begun_row (Opening o p) turned = false
 is_in_begun_row (Opened o) turned = not turned
 is_in_begun_row swap turned = true
 
--- the word says that its object is neither dead nor at its last incarnation
-pub record IsOfLiving (word : ℕ) : Type 0 where
-  pub layout : layout_in word ≤ 1
+-- the word says that its object, which has these live layouts, is neither dead nor at its last incarnation
+pub record IsOfLiving (shapes : List Shape) (word : ℕ) : Type 0 where
+  pub layout : IsLiveTag shapes (layout_in word)
   pub last : incarnation_in word < LAST_INCARNATION
 
--- What a pass knows of its swap fits together: the stage, whether it has turned over, the layout with which it has
--- handed on, and its last Begin.
-pub record FitsSwap (swap : SwapAt) (turned : Bool) (handed : Option ℕ) (last : Option LastBegin) : Type 0 where
+-- What a pass knows of its swap fits together: the layouts of each object, the stage, whether it has turned over, the
+-- layout with which it has handed on, and its last Begin.
+pub record FitsSwap (shapes : List (List Shape)) (swap : SwapAt) (turned : Bool) (handed : Option ℕ) (last : Option LastBegin) : Type 0 where
   pub after : turned ≡ true → follows_turn swap ≡ true
   pub opens : opens_next swap ≡ true → turned ≡ true
   pub moved : is_some handed ≡ true → is_moved swap ≡ true
   pub object : (o : ℕ) → named_by swap ≡ Some o → object_begun last ≡ o
-  pub living : is_in_begun_row swap turned ≡ true → IsOfLiving (word_begun last)
+  pub living : is_in_begun_row swap turned ≡ true → IsOfLiving (slice_index_or shapes (object_begun last) []) (word_begun last)
+  pub known : IsKnownTag (slice_index_or shapes (object_begun last) []) (unwrap_or handed 0)

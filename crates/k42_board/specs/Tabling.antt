@@ -1,5 +1,6 @@
 -- The steps on tables, for one pass: where each may be taken, and what the pass knows after it.
 use Rattle.std.specs.Prelude.{◌≡◌, ℕ, ◌-◌, ◌/◌, ◌%◌, ◌<◌, ◌≤◌, ◌^◌, ◌==◌, ◌||◌, Bool, true, if◌then◌else◌, Option, Some, None, is_some, unwrap_or}
+use Rattle.k42_shapes.specs.Shapes.{IsKnownTag}
 use Rattle.k42_limits.specs.declared.TheConstants.{LAST_INCARNATION}
 use Rattle.gen_core.specs.Events.{is_free}
 use Rattle.phase_core.specs.Effects.{root_of, at_place, looked_up, direct_entry, knocked, at_stage, begun_as}
@@ -10,6 +11,7 @@ use Rattle.phase_core.specs.declared.caller.Place.TheVariants.{Out, Direct}
 use Rattle.phase_core.specs.declared.object.LocalEntry.{LocalEntry}
 use Rattle.k42_joined.specs.Swapping.{holds_none}
 use Rattle.k42_board.specs.Values.{local_value, layout_in, incarnation_in, has_bit, answer_in}
+use Rattle.k42_board.specs.Views.{shapes_at, live_at}
 use Rattle.k42_board.specs.declared.view.PassView.{PassView}
 
 -- a pass that has gone on in its call, and what it has learned of the row's layout
@@ -20,7 +22,7 @@ went v visitor layout = record v { visitor = visitor; layout = layout }
 abbrev pub entry_in : ℕ → LocalEntry
 entry_in word = record {
   tag = word % 4;
-  layout = word / 2 ^ 4 % 4;
+  layout = word / 2 ^ 4 % 16;
   cell = word / 2 ^ 8 % 2 ^ 8;
   incarnation = word / 2 ^ 32;
 }
@@ -30,20 +32,22 @@ abbrev pub entry_object : ℕ → ℕ
 entry_object word = word % 64 - 32
 
 -- what is so of each word of an entry: a direct one leads where the root of its layout does
-pub record EntryFound {P O R : Type 0} (v : PassView P O R) (found : ℕ) : Type 0 where
+pub record EntryFound {P O R : Type 0} (o : ℕ) (v : PassView P O R) (found : ℕ) : Type 0 where
   pub tag : (entry_in found).tag ≤ 2
-  pub layout : (entry_in found).layout ≤ 2
-  pub cell : (entry_in found).tag ≡ 1 → (entry_in found).cell ≡ root_of (entry_in found).layout v.turn.proc
+  pub layout : IsKnownTag (shapes_at v o) (entry_in found).layout
+  pub cell :
+      (entry_in found).tag ≡ 1
+      → (entry_in found).cell ≡ root_of (shapes_at v o) (entry_in found).layout v.turn.proc
   pub last : incarnation_in found ≤ LAST_INCARNATION
 
 -- and of each word of an object
-pub record ObjectFound {P O R : Type 0} (v : PassView P O R) (found : ℕ) : Type 0 where
-  pub layout : layout_in found ≤ 2
+pub record ObjectFound {P O R : Type 0} (o : ℕ) (v : PassView P O R) (found : ℕ) : Type 0 where
+  pub layout : IsKnownTag (shapes_at v o) (layout_in found)
   pub last : incarnation_in found ≤ LAST_INCARNATION
 
 -- and of the word of an object that the pass has missed: it is still in that row
-pub record RootFound {P O R : Type 0} (v : PassView P O R) (found : ℕ) : Type 0 where
-  pub word : ObjectFound v found
+pub record RootFound {P O R : Type 0} (o : ℕ) (v : PassView P O R) (found : ℕ) : Type 0 where
+  pub word : ObjectFound o v found
   pub row : incarnation_in found ≡ row_of v.visitor.place
 
 -- a direct entry tells its row's layout
@@ -76,18 +80,19 @@ pub record MayInstall {P O R : Type 0} (objects o cell : ℕ) (v : PassView P O 
   pub missed : is_missed v.visitor.place o ≡ true
   pub there : o < objects
   pub rooted : is_some v.layout ≡ true
-  pub named : cell ≡ root_of (layout_learned v) v.turn.proc
+  pub named : cell ≡ root_of (shapes_at v o) (layout_learned v) v.turn.proc
   pub free : holds_none v.taker.held ≡ true
 
 -- the empty entry that it read, and the direct one
 abbrev pub empty_before : {P O R : Type 0} → PassView P O R → ℕ
 empty_before v = local_value (empty_entry (row_of v.visitor.place))
 
-abbrev pub direct_after : {P O R : Type 0} → PassView P O R → ℕ
-direct_after v = local_value (direct_entry (layout_learned v) v.turn.proc (row_of v.visitor.place))
+abbrev pub direct_after : {P O R : Type 0} → ℕ → PassView P O R → ℕ
+direct_after o v =
+    local_value (direct_entry (shapes_at v o) (layout_learned v) v.turn.proc (row_of v.visitor.place))
 
-abbrev pub installs : {P O R : Type 0} → PassView P O R → ℕ → ℕ
-installs v word = if word == empty_before v then direct_after v else word
+abbrev pub installs : {P O R : Type 0} → ℕ → PassView P O R → ℕ → ℕ
+installs o v word = if word == empty_before v then direct_after o v else word
 
 -- it has led the entry to its cell
 abbrev pub direct_view : {P O R : Type 0} → ℕ → PassView P O R → PassView P O R
@@ -131,17 +136,17 @@ pub record MayBegin {P O R : Type 0} (objects o : ℕ) (v : PassView P O R) : Ty
   pub no_swap : is_idle v.visitor.swap ≡ true
   pub there : o < objects
 
--- the word says that the object is dead, or at its last incarnation
-abbrev pub is_over_in : ℕ → Bool
-is_over_in word = (layout_in word == 2) || (incarnation_in word == LAST_INCARNATION)
+-- the word says that the object, which has so many live layouts, is dead, or at its last incarnation
+abbrev pub is_over_in : ℕ → ℕ → Bool
+is_over_in live word = (layout_in word == live) || (incarnation_in word == LAST_INCARNATION)
 
 -- where no swap was under way its own begins, or is refused
-abbrev pub stage_begun : ℕ → ℕ → Visitor → Visitor
-stage_begun o found x = if has_bit found 24 then x else at_stage x (begun_as o (is_over_in found))
+abbrev pub stage_begun : ℕ → ℕ → ℕ → Visitor → Visitor
+stage_begun live o found x = if has_bit found 24 then x else at_stage x (begun_as o (is_over_in live found))
 
 abbrev pub begun_view : {P O R : Type 0} → ℕ → ℕ → PassView P O R → PassView P O R
 begun_view o found v = record v {
-  visitor = stage_begun o found v.visitor;
+  visitor = stage_begun (live_at v o) o found v.visitor;
   last = Some (record { object = o; word = found });
-  found = answer_in found;
+  found = answer_in (live_at v o) found;
 }

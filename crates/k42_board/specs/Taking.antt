@@ -3,6 +3,7 @@ use Rattle.std.specs.Prelude.{◌≡◌, ◌≢◌, ◌⊎◌, ℕ, ◌≤◌, �
 use Rattle.std.specs.List.{filter}
 use mathlib.Core.Option.{some}
 use lib.ListN.{get_elem?}
+use Rattle.k42_shapes.specs.Shapes.{IsLiveTag}
 use Rattle.atomic_table.specs.Table.{State, Step, Act, Valid, rest, stepped}
 use Rattle.k42_limits.specs.declared.TheConstants.{CALLERS, PROCESSORS}
 use Rattle.k42_kinds.specs.Rows.{part_at}
@@ -11,7 +12,7 @@ use Rattle.phase_core.specs.Stages.{IsInside}
 use Rattle.phase_core.specs.declared.caller.SwapAt.TheVariants.{Moved}
 use Rattle.turn_core.specs.Events.{caller_locked, caller_unlocked}
 use Rattle.turn_core.specs.Names.{names}
-use Rattle.k42_stamp.specs.Layouts.{Layouts}
+use Rattle.k42_stamp.specs.Layouts.{Layouts, IsKnown}
 use Rattle.k42_joined.specs.Plain.{Joined}
 use Rattle.k42_joined.specs.Found.{tells_over}
 use Rattle.k42_joined.specs.Numbers.{cell_of, object_of, place_of}
@@ -24,7 +25,7 @@ use Rattle.k42_board.specs.Seats.{told_by}
 use Rattle.k42_board.specs.Steps.{Seated, on_pass, Always}
 use Rattle.k42_board.specs.Values.{layout_in, incarnation_in}
 use Rattle.k42_board.specs.Log.{took, logs, put_at}
-use Rattle.k42_board.specs.Views.{pass_in, object_begun, word_begun}
+use Rattle.k42_board.specs.Views.{pass_in, object_begun, shapes_at, word_begun}
 use Rattle.k42_board.specs.Words.{slot_of}
 use Rattle.k42_board.specs.declared.cell.Content.{Content}
 use Rattle.k42_board.specs.declared.view.Note.{Note}
@@ -208,7 +209,7 @@ module _ {S L P O R : Type 0} (F : Layouts S L P O R) (declared : List L) where
     pub layout : L
     pub same : F.object_of layout ≡ F.object_of declaration
     pub tagged : F.tag_of layout ≡ tag
-    pub known : F.tag_of layout ≤ 2
+    pub known : IsKnown F layout
     pub row : List P
     pub whole : F.Whole layout F.procs row
     pub parts :
@@ -222,7 +223,7 @@ module _ {S L P O R : Type 0} (F : Layouts S L P O R) (declared : List L) where
     pub moved :
         (o : ℕ) → v.visitor.swap ≡ Moved o → v.handed ≡ None
         → IsRowNoted v.notes o (incarnation_in (word_begun v.last)) (layout_in (word_begun v.last))
-        × (layout_in (word_begun v.last) ≤ 1)
+        × IsLiveTag (shapes_at v o) (layout_in (word_begun v.last))
 
   -- Whatever state the table shows, and whatever the word is, the slot moves and the state becomes this.
   abbrev pub ActIs :

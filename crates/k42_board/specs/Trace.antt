@@ -10,8 +10,8 @@ use Rattle.k42_joined.specs.Found.{tells_over}
 use Rattle.k42_joined.specs.State.{incarnation, kept_of, is_handed}
 use Rattle.k42_joined.specs.Swapping.{may_turn_over}
 use Rattle.phase_core.specs.Stages.{is_moved, object_named}
-use Rattle.k42_board.specs.Values.{answer_in, incarnation_in}
-use Rattle.k42_board.specs.Views.{kept_in, word_begun, object_begun}
+use Rattle.k42_board.specs.Values.{incarnation_in}
+use Rattle.k42_board.specs.Views.{answer_begun, kept_in, word_begun, object_begun, live_at}
 use Rattle.k42_board.specs.declared.view.PassView.{PassView}
 
 -- the entry's generation is not above that of the processor
@@ -21,7 +21,7 @@ IsOfTime g p entry = (generation : ℕ) → entry.generation ≡ Some generation
 pub record KnowsTrace {L P O R : Type 0} (tag_of : L → ℕ) (s : Joined L O R) (v : PassView P O R) : Type 0 where
   pub kept : kept_of s v.number ≡ kept_in v
   -- what is kept of its last Begin is what the word that it found answers
-  pub found : (answer : Answer R) → v.found ≡ Some answer → answer_in (word_begun v.last) ≡ Some answer
+  pub found : (answer : Answer R) → v.found ≡ Some answer → answer_begun (live_at v) v.last ≡ Some answer
   -- and where that tells of an object which is over, the object stays so
   pub over :
       (answer : Answer R) → v.found ≡ Some answer → tells_over answer ≡ true

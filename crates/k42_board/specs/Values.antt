@@ -40,15 +40,15 @@ abbrev pub count_in : ℕ → ℕ
 count_in word = word % 2 ^ 24
 
 abbrev pub layout_in : ℕ → ℕ
-layout_in word = word / 2 ^ 28 % 4
+layout_in word = word / 2 ^ 28 % 16
 
 abbrev pub incarnation_in : ℕ → ℕ
 incarnation_in word = word / 2 ^ 32
 
--- what an object's word answers to a Begin: nothing where the swap may go on
-abbrev pub answer_in : {R : Type 0} → ℕ → Option (Answer R)
-answer_in word =
-    if layout_in word == 2 then Some Gone
+-- what the word of an object with so many live layouts answers to a Begin: nothing where the swap may go on
+abbrev pub answer_in : {R : Type 0} → ℕ → ℕ → Option (Answer R)
+answer_in live word =
+    if layout_in word == live then Some Gone
     else if incarnation_in word == LAST_INCARNATION then Some Spent
     else if has_bit word 24
     then Some (Busy (if has_bit word 27 then incarnation_in word else incarnation_in word + 1))

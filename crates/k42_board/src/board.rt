@@ -18,10 +18,10 @@ impl<L: Layout> TableRule<Option<Cell<L>>, View<L::Part, L::Op, L::Reply>, Setup
     ghost use Rattle.k42_board.specs.Views.{first_view};
 
     ghost holds = { λ key s. Ruled
-        (layouts_on L.object L.tag_of L.ways L.whole L.serves L.admitted L.act_of key.procs key.callers.items)
+        (layouts_on L.object L.shapes L.tag_of L.ways L.whole L.serves L.admitted L.act_of key.procs key.callers.items)
         key.layouts.items (length key.callers.items) s };
 
-    ghost first = { λ key. first_view key.procs key.layouts.items key.callers.items };
+    ghost first = { λ key. first_view L.shapes key.procs key.layouts.items key.callers.items };
 }
 
 pub type Board<L> = Table<

@@ -1,5 +1,6 @@
 //! A call at the one cell that it needs, which stays in its slot meanwhile: it is long, and would be moved twice.
 ghost use Rattle.std.specs.Prelude.{◌≡◌, ◌≤◌, ◌<◌, [], ◌∷◌, IsTrue, None, IfOk, OnOk, OnErr, IsSomeAnd};
+ghost use Rattle.k42_shapes.specs.Shapes.{IsKnownTag};
 ghost use Rattle.k42_limits.specs.declared.TheConstants.{LAST_STAMP, PROCESSORS};
 ghost use Rattle.k42_kinds.specs.LayoutLaws.{IsReached};
 ghost use Rattle.k42_board.specs.Calling.{HasCalledAt, HasLeftCell, HasStepped, MayCallAt, due_in};
@@ -30,7 +31,7 @@ fn step_empty<L: Layout>(
     op: &L::Op,
     cell: &mut Cell<L>,
 ) -> Result<L::Reply, Memory>
-    requires known { (L.tag_of layout.now ≤ 2) × (place < procs) × (procs ≤ PROCESSORS) }
+    requires known { IsKnownTag (L.shapes layout.now) (L.tag_of layout.now) × (place < procs) × (procs ≤ PROCESSORS) }
     requires takes { IsTrue ((L.object layout.now).takes op.now) }
     requires empty { cell.old.part ≡ None }
     requires reached { IsReached (L.ways layout.now) (L.whole layout.now) (due_in (L.ways layout.now) procs place cell.old) op.now }
@@ -54,7 +55,7 @@ fn step_cell<L: Layout>(
     cell: &mut Cell<L>,
     reply: &mut L::Reply,
 ) -> Result<(), Memory>
-    requires known { (L.tag_of layout.now ≤ 2) × (place < procs) × (procs ≤ PROCESSORS) }
+    requires known { IsKnownTag (L.shapes layout.now) (L.tag_of layout.now) × (place < procs) × (procs ≤ PROCESSORS) }
     requires takes { IsTrue ((L.object layout.now).takes op.now) }
     requires reached { IsReached (L.ways layout.now) (L.whole layout.now) (due_in (L.ways layout.now) procs place cell.old) op.now }
     ensures stepped { OnOk result (HasStepped (L.ways layout.now) procs place op.now reply.new cell.old cell.new) }
@@ -79,7 +80,7 @@ fn step_slot<L: Layout>(
     slot: &mut Option<Cell<L>>,
     reply: &mut L::Reply,
 ) -> Result<u64, Memory>
-    requires known { (L.tag_of layout.now ≤ 2) × (place < procs) × (procs ≤ PROCESSORS) }
+    requires known { IsKnownTag (L.shapes layout.now) (L.tag_of layout.now) × (place < procs) × (procs ≤ PROCESSORS) }
     requires takes { IsTrue ((L.object layout.now).takes op.now) }
     requires reached { IsSomeAnd slot.old (λ content. IsReached (L.ways layout.now) (L.whole layout.now) (due_in (L.ways layout.now) procs place content) op.now) }
     ensures stepped { OnOk result (StaysFull (HasStepped (L.ways layout.now) procs place op.now reply.new) slot.old slot.new) }
@@ -107,7 +108,7 @@ fn step_lifted<L: Layout>(
     reply: &mut L::Reply,
 ) -> Result<u64, Memory>
     requires holds { HoldsSlot L.Layout board.now.shared.table_id board.now.shared.key cell seat.old }
-    requires known { (L.tag_of layout.now ≤ 2) × (place < procs) × (procs ≤ PROCESSORS) }
+    requires known { IsKnownTag (L.shapes layout.now) (L.tag_of layout.now) × (place < procs) × (procs ≤ PROCESSORS) }
     requires takes { IsTrue ((L.object layout.now).takes op.now) }
     requires reached { IsSomeAnd (slot_in seat.old.me.1) (λ content. IsReached (L.ways layout.now) (L.whole layout.now) (due_in (L.ways layout.now) procs place content) op.now) }
     ensures ours { (seat.new.table_id ≡ seat.old.table_id) × (seat.new.id ≡ seat.old.id) }
@@ -141,7 +142,7 @@ pub fn call_cell<L: Layout>(
     requires may { HoldsHome cell (pass_in seat.old.me.0) }
     requires agree { AgreeOn (layouts_by L.Layout board.now.shared.key) }
     requires procs { procs ≡ board.now.shared.key.procs }
-    requires known { (L.tag_of layout.now ≤ 2) × (place < procs) × (procs ≤ PROCESSORS) }
+    requires known { IsKnownTag (L.shapes layout.now) (L.tag_of layout.now) × (place < procs) × (procs ≤ PROCESSORS) }
     requires takes { IsTrue ((L.object layout.now).takes op.now) }
     requires clock { (clock ≡ (pass_in seat.old.me.0).taker.clock) × (clock ≤ LAST_STAMP) }
     requires call { MayCallAt (layouts_by L.Layout board.now.shared.key) board.now.shared.key.layouts.items layout.now place cell op.now seat.old.id (pass_in seat.old.me.0) }

@@ -1,7 +1,7 @@
 //! Where the words and the slots of the table lie, and what the fields of a word are.
 ghost use Rattle.std.specs.Prelude.{◌≡◌, ◌<◌, ◌≤◌, ◌+◌, ◌-◌, ◌*◌, ◌^◌};
 ghost use Rattle.k42_joined.specs.Numbers.{cell_of};
-ghost use Rattle.phase_core.specs.Effects.{direct_entry};
+ghost use Rattle.phase_core.specs.Effects.{entry_to};
 ghost use Rattle.phase_core.specs.State.{empty_entry, mediator_entry};
 ghost use Rattle.k42_board.specs.Gracing.{entries_in, exits_in};
 ghost use Rattle.k42_board.specs.Tabling.{entry_in, is_over_in};
@@ -131,9 +131,9 @@ pub fn incarnation_in(word: u64) -> u32
 /// The layout, in an object's word.
 pub fn layout_in(word: u64) -> u32
     ensures is { result ≡ layout_in word }
-    ensures few { result < 4 }
+    ensures few { result < 16 }
 {
-    (word / LAYOUT % 4) as u32
+    (word / LAYOUT % 16) as u32
 }
 
 /// How many callers the mediator counts, in an object's word.
@@ -171,27 +171,27 @@ pub fn is_complete(word: u64) -> bool
     word / COMPLETE % 2 == 1
 }
 
-/// Whether the object is dead, or at its last incarnation.
-pub fn is_over(word: u64) -> bool
-    ensures { result ≡ is_over_in word }
+/// Whether the object, which has so many live layouts, is dead, or at its last incarnation.
+pub fn is_over(word: u64, live: u32) -> bool
+    ensures { result ≡ is_over_in live word }
 {
-    layout_in(word) == 2 || word / INCARNATION == u64::from(LAST_INCARNATION)
+    layout_in(word) == live || word / INCARNATION == u64::from(LAST_INCARNATION)
 }
 
 /// The word of an object that blocks while nobody is counted, by the word that its swap began with.
 pub fn blocked_word(begun: u64) -> u64
     ensures { result ≡ 2 ^ 24 * 3 + 2 ^ 28 * layout_in begun + 2 ^ 32 * incarnation_in begun }
 {
-    SWAP + BLOCK + begun / LAYOUT % 4 * LAYOUT + begun / INCARNATION * INCARNATION
+    SWAP + BLOCK + begun / LAYOUT % 16 * LAYOUT + begun / INCARNATION * INCARNATION
 }
 
 /// What turns an object over, as it is added to its word: one incarnation, COMPLETE for BLOCK and MOVE, and the new layout
 /// for the one that its swap began with.
 pub fn turn_amount(layout: u32, begun: u64) -> u64
-    requires { layout ≤ 2 }
+    requires { layout < 16 }
     ensures { result ≡ 2 ^ 32 + 2 ^ 28 * layout + 2 ^ 25 - 2 ^ 28 * layout_in begun }
 {
-    INCARNATION + LAYOUT * u64::from(layout) + BLOCK - LAYOUT * (begun / LAYOUT % 4)
+    INCARNATION + LAYOUT * u64::from(layout) + BLOCK - LAYOUT * (begun / LAYOUT % 16)
 }
 
 /// An entry's tag: 0 empty, 1 direct, 2 a mediator.
@@ -205,7 +205,7 @@ pub fn tag_in(word: u64) -> u64
 pub fn entry_layout(word: u64) -> u32
     ensures { result ≡ (entry_in word).layout }
 {
-    (word / 16 % 4) as u32
+    (word / 16 % 16) as u32
 }
 
 /// The place to which a direct entry leads.
@@ -229,11 +229,10 @@ pub fn mediator_word(incarnation: u32) -> u64
     u64::from(incarnation) * INCARNATION + 2
 }
 
-/// An entry that leads to the cell which the root of the layout names for the processor.
-pub fn direct_word(layout: u32, proc: u32, incarnation: u32) -> u64
-    requires { (layout < 4) × (proc < 8) }
-    ensures { result ≡ local_value (direct_entry layout proc incarnation) }
+/// An entry that leads to a cell of a row with the layout.
+pub fn direct_word(layout: u32, cell: u32, incarnation: u32) -> u64
+    requires { (layout < 16) × (cell < 8) }
+    ensures { result ≡ local_value (entry_to layout cell incarnation) }
 {
-    let cell = if layout == 1 { proc } else { 0 };
     u64::from(incarnation) * INCARNATION + 1 + u64::from(16 * layout + 256 * cell)
 }

@@ -1,5 +1,6 @@
 //! The first words and slots of a table.
 ghost use Rattle.std.specs.Prelude.{◌≡◌, ◌≤◌, length, IfOk};
+ghost use Rattle.k42_shapes.specs.Shapes.{IsLiveTag};
 ghost use Rattle.k42_places.specs.Places.{EachPlace};
 ghost use Rattle.k42_board.specs.Starting.{AreFirstWords, AreFirstSlots};
 ghost use Rattle.k42_board.specs.Words.{many_slots};
@@ -13,7 +14,7 @@ use std::alloc::Global;
 
 pub fn first_words<L: Layout>(alloc: Global, layouts: &[L]) -> Result<Vec<u64>, Memory>
     requires few { length layouts.now ≤ 16 }
-    requires live { EachPlace (λ o layout. L.tag_of layout ≤ 1) layouts.now }
+    requires live { EachPlace (λ o layout. IsLiveTag (L.shapes layout) (L.tag_of layout)) layouts.now }
     ensures { IfOk result (λ words. AreFirstWords L.tag_of layouts.now (length layouts.now) words.items) }
 {
     let mut words = Vec::from_elem(alloc, 0u64, 1056)?;

@@ -11,7 +11,7 @@ impl<P: Drop, O, R> Play<Option<Content<P, O, R>>, View<P, O, R>> for LookUp {
     ghost use Rattle.k42_board.specs.Tabling.{EntryFound, entry_object, looked_up_view};
     ghost use Rattle.k42_board.specs.declared.view.StepName.TheVariants as steps;
 
-    ghost then = { λ step. TellsWith (λ found v. took steps.LookUp step.word found (looked_up_view (entry_object step.word) found v)) EntryFound step };
+    ghost then = { λ step. TellsWith (λ found v. took steps.LookUp step.word found (looked_up_view (entry_object step.word) found v)) (EntryFound (entry_object step.word)) step };
 }
 
 pub(crate) struct LoadRoot;
@@ -19,10 +19,10 @@ pub(crate) struct LoadRoot;
 impl<P: Drop, O, R> Play<Option<Content<P, O, R>>, View<P, O, R>> for LoadRoot {
     ghost use Rattle.k42_board.specs.Log.{took};
     ghost use Rattle.k42_board.specs.Steps.{TellsWith};
-    ghost use Rattle.k42_board.specs.Tabling.{RootFound, rooted_view};
+    ghost use Rattle.k42_board.specs.Tabling.{RootFound, word_object, rooted_view};
     ghost use Rattle.k42_board.specs.declared.view.StepName.TheVariants as steps;
 
-    ghost then = { λ step. TellsWith (λ found v. took steps.LoadRoot step.word found (rooted_view found v)) RootFound step };
+    ghost then = { λ step. TellsWith (λ found v. took steps.LoadRoot step.word found (rooted_view found v)) (RootFound (word_object step.word)) step };
 }
 
 pub(crate) struct EndCall;
@@ -66,7 +66,7 @@ impl<P: Drop, O, R> Play<Option<Content<P, O, R>>, View<P, O, R>> for Knock {
     ghost use Rattle.k42_board.specs.Tabling.{ObjectFound, word_object, knocked_view};
     ghost use Rattle.k42_board.specs.declared.view.StepName.TheVariants as steps;
 
-    ghost then = { λ step. TellsWith (λ found v. took steps.Knock step.word found (knocked_view (word_object step.word) found v)) ObjectFound step };
+    ghost then = { λ step. TellsWith (λ found v. took steps.Knock step.word found (knocked_view (word_object step.word) found v)) (ObjectFound (word_object step.word)) step };
 }
 
 pub(crate) struct Begin;
@@ -77,5 +77,5 @@ impl<P: Drop, O, R> Play<Option<Content<P, O, R>>, View<P, O, R>> for Begin {
     ghost use Rattle.k42_board.specs.Tabling.{ObjectFound, word_object, begun_view};
     ghost use Rattle.k42_board.specs.declared.view.StepName.TheVariants as steps;
 
-    ghost then = { λ step. TellsWith (λ found v. took steps.Begin step.word found (begun_view (word_object step.word) found v)) ObjectFound step };
+    ghost then = { λ step. TellsWith (λ found v. took steps.Begin step.word found (begun_view (word_object step.word) found v)) (ObjectFound (word_object step.word)) step };
 }

@@ -55,7 +55,7 @@ pub fn install_word<L: Layout>(
     new: u64,
 ) -> u64
     requires places { (home < 8) × ((pass_in seat.old.me.0).turn.proc ≡ home) × (object < 16) }
-    requires words { (old ≡ empty_before (pass_in seat.old.me.0)) × (new ≡ direct_after (pass_in seat.old.me.0)) }
+    requires words { (old ≡ empty_before (pass_in seat.old.me.0)) × (new ≡ direct_after object (pass_in seat.old.me.0)) }
     requires may { MayTake L.Layout board.now.shared.table_id board.now.shared.key (protocol.install object cell) seat.old }
     ensures { HasTaken L.Layout board.now.shared.key (protocol.install object cell) seat.old result seat.new }
 {

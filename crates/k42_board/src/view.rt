@@ -2,6 +2,7 @@
 //! does a linked list, where the size of its elements is not known.
 use gen_core::GenCaller;
 use k42_kinds::{Answer, Entry};
+use k42_shapes::Shape;
 use phase_core::PhaseCaller;
 use std::collections::LinkedList;
 use turn_core::TurnCaller;
@@ -84,6 +85,8 @@ pub struct Note<P, O, R> {
 
 /// What a pass knows.
 pub struct PassView<P, O, R> {
+    /// The shapes of each object's live layouts.
+    pub shapes: [[Shape; 0]; 0],
     pub number: u32,
     pub turn: GenCaller,
     pub visitor: PhaseCaller,

@@ -15,7 +15,7 @@ use Rattle.k42_kinds.specs.declared.operation.Op.TheVariants.{Add}
 use Rattle.k42_kinds.specs.declared.operation.Reply.TheVariants.{Done}
 use Rattle.phase_core.specs.Event.{Begin, Block, Clear, EndCall, Free, Install, Interpose, Knock, LookUp, Move, Open, StepOut, TakeRoleWith, Turn, Unblock}
 use Rattle.phase_core.specs.Events as phases
-use Rattle.phase_core.specs.State.{new_phases, object_at, visitor_at}
+use Rattle.phase_core.specs.State.{new_phases, of_two, object_at, visitor_at}
 use Rattle.phase_core.specs.declared.caller.Place.TheVariants.{AtMediator, Tracked, Blocked}
 use Rattle.phase_core.specs.declared.caller.SwapAt.TheVariants.{Blocking}
 use Rattle.turn_core.specs.Events as turns
@@ -34,7 +34,7 @@ use Rattle.k42_joined.specs.Touching.{may_touch}
 -- a layout is its tag here: one object, spread, on one processor, and four callers
 abbrev begin : Joined ℕ Op Reply
 begin = record {
-  phases = new_phases 1 (1 ∷ []) (0 ∷ 0 ∷ 0 ∷ 0 ∷ []);
+  phases = new_phases 1 (of_two 1 ∷ []) (0 ∷ 0 ∷ 0 ∷ 0 ∷ []);
   turns = cells.fresh (first_lives 1) 4;
   hands = [] ∷ [];
   kept = nothing_kept ∷ nothing_kept ∷ nothing_kept ∷ nothing_kept ∷ [];

@@ -1,8 +1,9 @@
 -- A Begin keeps the answers, and keeps what it found.
-use Rattle.std.proofs.Common.{◌≡◌, ◌≢◌, ℕ, ◌+◌, ◌<◌, ◌≤◌, ◌⊎◌, ◌∙◌, Bool, true, false, ◌||◌, cond, eqb, List, [], ◌∷◌, ◌++◌, Some, None, refl, sym, ap, subst, ⊎_elim, arith}
+use Rattle.std.proofs.Common.{◌≡◌, ◌≢◌, ℕ, ◌+◌, ◌<◌, ◌≤◌, ◌⊎◌, ◌∙◌, Bool, true, false, ◌||◌, cond, eqb, List, [], ◌∷◌, ◌++◌, Some, None, refl, sym, ap, subst, ⊎_elim, arith, length}
 use Rattle.std.proofs.lemmas.Bool.{and_parts, eqb-true, eq-eqb}
 use Rattle.std.proofs.lemmas.List.{get_or-set_same, get_or-set_other}
 use Rattle.std.proofs.lemmas.Option.{same_Some}
+use Rattle.k42_shapes.specs.declared.shape.Shape.{Shape}
 use Rattle.k42_limits.specs.declared.TheConstants.{LAST_INCARNATION}
 use Rattle.k42_kinds.specs.declared.entry.Answer.{Answer}
 use Rattle.k42_kinds.specs.declared.entry.Answer.TheVariants.{Swapped, Busy, Spent, Gone, Abandoned}
@@ -42,17 +43,17 @@ pub record IsOfWord {R : Type 0} (k : Object) (answer : Answer R) : Type 0 where
   pub over : IsTrueOf k k.incarnation answer
   pub number : (n : ℕ) → answer ≡ Busy n → n ≡ swap_number k
   pub swap : (n : ℕ) → answer ≡ Busy n → k.swap ≡ true
-  pub live : (n : ℕ) → answer ≡ Busy n → (k.layout ≢ 2) × (k.incarnation ≢ LAST_INCARNATION)
+  pub live : (n : ℕ) → answer ≡ Busy n → (k.layout ≢ length k.shapes) × (k.incarnation ≢ LAST_INCARNATION)
   pub free : k.swap ≡ false → is_over k ≡ true
 
 found_word : {R : Type 0} (k : Object) (answer : Answer R) → answer_found k ≡ Some answer → IsOfWord k answer
-found_word k answer found = by_layout (eqb k.layout 2) refl (eqb k.incarnation LAST_INCARNATION) refl k.swap refl found where
-  by_layout : (a : Bool) → eqb k.layout 2 ≡ a → (b : Bool) → eqb k.incarnation LAST_INCARNATION ≡ b → (w : Bool) → k.swap ≡ w
+found_word k answer found = by_layout (eqb k.layout (length k.shapes)) refl (eqb k.incarnation LAST_INCARNATION) refl k.swap refl found where
+  by_layout : (a : Bool) → eqb k.layout (length k.shapes) ≡ a → (b : Bool) → eqb k.incarnation LAST_INCARNATION ≡ b → (w : Bool) → k.swap ≡ w
       → cond a (Some Gone) (cond b (Some Spent) (cond w (Some (Busy (swap_number k))) None)) ≡ Some answer → IsOfWord k answer
   by_layout true e b f w g is =
       let same : Gone ≡ answer = same_Some Gone answer is in
       subst (IsOfWord k) same (record {
-        over = (refl, eqb-true k.layout 2 e);
+        over = (refl, eqb-true k.layout (length k.shapes) e);
         number = λ n busy. absurd (cc);
         swap = λ n busy. absurd (cc);
         live = λ n busy. absurd (cc);
@@ -60,7 +61,7 @@ found_word k answer found = by_layout (eqb k.layout 2) refl (eqb k.incarnation L
       })
   by_layout false e true f w g is =
       let same : Spent ≡ answer = same_Some Spent answer is in
-      let apart : k.layout ≢ 2 = λ two. let bad : false ≡ true = sym e ∙ eq-eqb k.layout 2 two in cc in
+      let apart : k.layout ≢ length k.shapes = λ two. let bad : false ≡ true = sym e ∙ eq-eqb k.layout (length k.shapes) two in cc in
       subst (IsOfWord k) same (record {
         over = (refl, eqb-true k.incarnation LAST_INCARNATION f, apart);
         number = λ n busy. absurd (cc);
@@ -75,7 +76,7 @@ found_word k answer found = by_layout (eqb k.layout 2) refl (eqb k.incarnation L
         number = λ n busy. let number : swap_number k ≡ n = cc in sym number;
         swap = λ n busy. g;
         live = λ n busy. (
-          (λ two. let bad : false ≡ true = sym e ∙ eq-eqb k.layout 2 two in cc),
+          (λ two. let bad : false ≡ true = sym e ∙ eq-eqb k.layout (length k.shapes) two in cc),
           (λ last. let bad : false ≡ true = sym f ∙ eq-eqb k.incarnation LAST_INCARNATION last in cc),
         );
         free = λ none. let bad : true ≡ false = sym g ∙ none in absurd (cc);
@@ -89,19 +90,19 @@ number_up k = by_complete k.complete where
   by_complete false = omega arith
 
 -- COMPLETE is set only behind the first incarnation
-complete_after : (b : Bits) (layout i : ℕ) (swap : SwapAt) → BitsFollow b layout i swap → b.complete ≡ true → 0 < i
-complete_after b layout i Idle bits is = let clear = bits.2 in absurd (cc)
-complete_after b layout i (Refused o) bits is = let clear = bits.0.2 in absurd (cc)
-complete_after b layout i (Begun o) bits is = let clear = bits.0.2 in absurd (cc)
-complete_after b layout i (Interposing o p) bits is = let clear = bits.0.2 in absurd (cc)
-complete_after b layout i (Interposed o) bits is = let clear = bits.0.2 in absurd (cc)
-complete_after b layout i (Draining o) bits is = let clear = bits.0.2 in absurd (cc)
-complete_after b layout i (Drained o) bits is = let clear = bits.0.2 in absurd (cc)
-complete_after b layout i (Blocking o) bits is = let clear = bits.0.2 in absurd (cc)
-complete_after b layout i (Moved o) bits is = let clear = bits.0.2 in absurd (cc)
-complete_after b layout i (Opening o p) bits is = bits.1
-complete_after b layout i (Reopening o p) bits is = let clear = bits.2 in absurd (cc)
-complete_after b layout i (Opened o) bits is = ⊎_elim (λ clear. let none = clear.2 in absurd (cc)) (λ set_is. set_is.1) bits
+complete_after : (b : Bits) (shapes : List Shape) (layout i : ℕ) (swap : SwapAt) → BitsFollow b shapes layout i swap → b.complete ≡ true → 0 < i
+complete_after b shapes layout i Idle bits is = let clear = bits.2 in absurd (cc)
+complete_after b shapes layout i (Refused o) bits is = let clear = bits.0.2 in absurd (cc)
+complete_after b shapes layout i (Begun o) bits is = let clear = bits.0.2 in absurd (cc)
+complete_after b shapes layout i (Interposing o p) bits is = let clear = bits.0.2 in absurd (cc)
+complete_after b shapes layout i (Interposed o) bits is = let clear = bits.0.2 in absurd (cc)
+complete_after b shapes layout i (Draining o) bits is = let clear = bits.0.2 in absurd (cc)
+complete_after b shapes layout i (Drained o) bits is = let clear = bits.0.2 in absurd (cc)
+complete_after b shapes layout i (Blocking o) bits is = let clear = bits.0.2 in absurd (cc)
+complete_after b shapes layout i (Moved o) bits is = let clear = bits.0.2 in absurd (cc)
+complete_after b shapes layout i (Opening o p) bits is = bits.1
+complete_after b shapes layout i (Reopening o p) bits is = let clear = bits.2 in absurd (cc)
+complete_after b shapes layout i (Opened o) bits is = ⊎_elim (λ clear. let none = clear.2 in absurd (cc)) (λ set_is. set_is.1) bits
 
 -- the number of a carried-out swap, by its answer
 carried_low : {R : Type 0} (answer : Answer R) (n : ℕ) → ((j : ℕ) → answer ≡ Swapped j → j ≤ n) → number_carried_out answer ≤ n
@@ -143,14 +144,14 @@ module _ {L O R : Type 0} (s : Joined L O R) (sound : phases.IsSound s.phases) (
   some_number = by_complete k.complete refl where
     by_complete : (b : Bool) → k.complete ≡ b → 1 ≤ cond b k.incarnation (k.incarnation + 1)
     by_complete true is =
-        let after : 0 < k.incarnation = complete_after (bits_of k) k.layout k.incarnation _ (object_known s.phases sound q named).bits_follow.bits is in
+        let after : 0 < k.incarnation = complete_after (bits_of k) k.shapes k.layout k.incarnation _ (object_known s.phases sound q named).bits_follow.bits is in
         omega (arith, after)
     by_complete false is = omega arith
 
   -- the swap that was found
 
-  refused_over : (swap : SwapAt) → BitsFollow (bits_of k) k.layout k.incarnation swap → is_refused swap ≡ true
-      → (k.layout ≡ 2) ⊎ (k.incarnation ≡ LAST_INCARNATION)
+  refused_over : (swap : SwapAt) → BitsFollow (bits_of k) k.shapes k.layout k.incarnation swap → is_refused swap ≡ true
+      → (k.layout ≡ length k.shapes) ⊎ (k.incarnation ≡ LAST_INCARNATION)
   refused_over (Refused o) bits is = bits.1
   refused_over swap bits is = absurd (cc)
 
@@ -159,7 +160,7 @@ module _ {L O R : Type 0} (s : Joined L O R) (sound : phases.IsSound s.phases) (
       let found = (one_swap s.phases sound q named).swapper (word.swap n busy) in
       let d = found.0 in
       let owned = (visitor_known s.phases sound d found.1).swap_alone.owned q found.2 in
-      let bits = subst (λ w. BitsFollow (bits_of k) k.layout k.incarnation w) owned.1 (object_known s.phases sound q named).bits_follow.bits in
+      let bits = subst (λ w. BitsFollow (bits_of k) k.shapes k.layout k.incarnation w) owned.1 (object_known s.phases sound q named).bits_follow.bits in
       record {
         rival = d;
         other = λ same. names_none q (subst (λ e. named_by (swap_of s e) ≡ Some q) same found.2);
@@ -169,7 +170,7 @@ module _ {L O R : Type 0} (s : Joined L O R) (sound : phases.IsSound s.phases) (
         number = word.number n busy;
       }
     where
-      by_test : (d : ℕ) → BitsFollow (bits_of k) k.layout k.incarnation (swap_of s d) → (b : Bool) → is_refused (swap_of s d) ≡ b → b ≡ false
+      by_test : (d : ℕ) → BitsFollow (bits_of k) k.shapes k.layout k.incarnation (swap_of s d) → (b : Bool) → is_refused (swap_of s d) ≡ b → b ≡ false
       by_test d bits true is =
           let live = word.live n busy in absurd (⊎_elim (λ two. live.0 two) (λ last. live.1 last) (refused_over (swap_of s d) bits is))
       by_test d bits false is = refl
@@ -292,7 +293,7 @@ module _ {L O R : Type 0} (s : Joined L O R) (sound : phases.IsSound s.phases) (
     p_swap = swap_here s c there q next (record k { swap = true }) kept
 
     p_word : IsSameWord k (record k { swap = true })
-    p_word = record { incarnation = refl; layout = refl; complete = refl }
+    p_word = record { shapes = refl; incarnation = refl; layout = refl; complete = refl }
 
     p_moves : MovesOn s (with_phases p) c
     p_moves =

@@ -228,10 +228,10 @@ module _ {L O R : Type 0} (s : Joined L O R) (locked : AreLocked s) (answered : 
     -- COMPLETE is clear where the swap is given up
     given_clear : (sound : phases.IsSound s.phases) → is_given_up (swap_of s c) (object s e.object) e.object ≡ true → (object s e.object).complete ≡ false
     given_clear sound is = by_swap (swap_of s c) refl is where
-      bits : (q : ℕ) → named_by (swap_of s c) ≡ Some q → BitsFollow (bits_of (object s q)) (object s q).layout (object s q).incarnation (swap_of s c)
+      bits : (q : ℕ) → named_by (swap_of s c) ≡ Some q → BitsFollow (bits_of (object s q)) (object s q).shapes (object s q).layout (object s q).incarnation (swap_of s c)
       bits q named =
           let stage = ((visitor_known s.phases sound c there).swap_alone.owned q named).1 in
-          subst (λ w. BitsFollow (bits_of (object s q)) (object s q).layout (object s q).incarnation w) stage
+          subst (λ w. BitsFollow (bits_of (object s q)) (object s q).shapes (object s q).layout (object s q).incarnation w) stage
           (object_known s.phases sound q ((answered c there).kept.there q ((answered c there).kept.begun q named))).bits_follow.bits
 
       by_swap : (swap : SwapAt) → swap_of s c ≡ swap → is_given_up swap (object s e.object) e.object ≡ true → (object s e.object).complete ≡ false
@@ -392,6 +392,6 @@ module _ {L O R : Type 0} (s : Joined L O R) (locked : AreLocked s) (answered : 
       alive f same Gone over is =
           let ready = moved_is_ready s.phases sound c e.object there moved in
           let alive_is = ready.alive in
-          let two : (object s e.object).layout ≡ 2 = subst (λ o. (object s o).layout ≡ 2) (sym same) is.1 in
+          let two : (object s e.object).layout ≡ length (object s e.object).shapes = subst (λ o. (object s o).layout ≡ length (object s o).shapes) (sym same) is.1 in
           absurd (omega (arith, alive_is, two))
       alive f same a over is = absurd (cc)

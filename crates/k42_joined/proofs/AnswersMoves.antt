@@ -1,5 +1,5 @@
 -- A swap that moves its object, turns it over, or gives up before its hand keeps the answers.
-use Rattle.std.proofs.Common.{◌≡◌, ℕ, ◌+◌, ◌<◌, ◌∙◌, Bool, true, false, not, ◌||◌, cond, eqb, ltb, List, Some, refl, sym, ap, subst, inl, ⊎_elim, arith}
+use Rattle.std.proofs.Common.{◌≡◌, ℕ, ◌+◌, ◌<◌, ◌∙◌, Bool, true, false, not, ◌||◌, cond, eqb, ltb, List, Some, refl, sym, ap, subst, inl, ⊎_elim, arith, length}
 use Rattle.std.proofs.lemmas.Bool.{and_parts, not-true, lt-ltb}
 use Rattle.std.proofs.lemmas.List.{get_or-set_same, get_or-set_other}
 use Rattle.std.proofs.lemmas.Option.{same_Some}
@@ -78,7 +78,7 @@ module _ {S L P O R : Type 0} (F : Layouts S L P O R) (laws : AreLaws F) (declar
     m = record s { phases = staged s.phases c q (Moved q) (record k { moving = true }); kept = s.kept }
 
     m_word : IsSameWord k (record k { moving = true })
-    m_word = record { incarnation = refl; layout = refl; complete = refl }
+    m_word = record { shapes = refl; incarnation = refl; layout = refl; complete = refl }
 
     m_swap : swap_of m c ≡ Moved q
     m_swap = swap_here s c there q (Moved q) (record k { moving = true }) s.kept
@@ -157,9 +157,10 @@ module _ {S L P O R : Type 0} (F : Layouts S L P O R) (laws : AreLaws F) (declar
           let more = ready.next in
           let number = number_before in
           record {
+            shapes = refl;
             incarnation = omega arith;
             number = omega (arith, number);
-            over = λ is. ⊎_elim (λ (two : k.layout ≡ 2). absurd (omega (arith, two, alive)))
+            over = λ is. ⊎_elim (λ (two : k.layout ≡ length k.shapes). absurd (omega (arith, two, alive)))
                 (λ (last : k.incarnation ≡ LAST_INCARNATION). absurd (omega (arith, last, more))) is;
           }
 
@@ -212,7 +213,7 @@ module _ {S L P O R : Type 0} (F : Layouts S L P O R) (laws : AreLaws F) (declar
       v_swap = swap_here s c there q (Reopening q 0) (unblocked k) kept
 
       v_word : IsSameWord k (unblocked k)
-      v_word = record { incarnation = refl; layout = refl; complete = refl }
+      v_word = record { shapes = refl; incarnation = refl; layout = refl; complete = refl }
 
       v_words : (o : ℕ) → IsSameWord (object s o) (object v o)
       v_words = words_same s c there q (Reopening q 0) (unblocked k) kept v_word

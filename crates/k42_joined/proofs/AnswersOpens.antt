@@ -38,11 +38,11 @@ module _ {L O R : Type 0} (s : Joined L O R) (sound : phases.IsSound s.phases) (
   own_there q named = (answered c there).kept.there q ((answered c there).kept.begun q named)
 
   -- the bits of the object that the swap names
-  own_bits : (q : ℕ) → named_by (swap_of s c) ≡ Some q → BitsFollow (bits_of (object s q)) (object s q).layout (object s q).incarnation (swap_of s c)
+  own_bits : (q : ℕ) → named_by (swap_of s c) ≡ Some q → BitsFollow (bits_of (object s q)) (object s q).shapes (object s q).layout (object s q).incarnation (swap_of s c)
   own_bits q named =
       let is = object_known s.phases sound q (own_there q named) in
       let stage = ((visitor_known s.phases sound c there).swap_alone.owned q named).1 in
-      subst (λ w. BitsFollow (bits_of (object s q)) (object s q).layout (object s q).incarnation w) stage is.bits_follow.bits
+      subst (λ w. BitsFollow (bits_of (object s q)) (object s q).shapes (object s q).layout (object s q).incarnation w) stage is.bits_follow.bits
 
   -- an entry is opened, and the swap goes to a stage of the same object
 
@@ -61,7 +61,7 @@ module _ {L O R : Type 0} (s : Joined L O R) (sound : phases.IsSound s.phases) (
     t_swap = swap_here s c there q next k s.kept
 
     t_word : IsSameWord (object s q) k
-    t_word = record { incarnation = refl; layout = refl; complete = refl }
+    t_word = record { shapes = refl; incarnation = refl; layout = refl; complete = refl }
 
     t_words : (o : ℕ) → IsSameWord (object s o) (object t o)
     t_words = words_same s c there q next k s.kept t_word
@@ -158,6 +158,7 @@ module _ {L O R : Type 0} (s : Joined L O R) (sound : phases.IsSound s.phases) (
 
     u_word : WordGoesOn (object s q) k'
     u_word = record {
+      shapes = refl;
       incarnation = omega arith;
       number = number_rises (object s q).complete;
       over = λ is. record { incarnation = refl; layout = refl };

@@ -4,6 +4,7 @@ use Rattle.std.specs.List.{slice_get}
 use Rattle.std.proofs.lemmas.Bool.{ltb-true}
 use Rattle.std.proofs.lemmas.List.{length-map}
 use Rattle.std.proofs.lemmas.Option.{same_Some}
+use Rattle.k42_shapes.specs.declared.shape.Shape.{Shape}
 use Rattle.k42_kinds.specs.Histories.{is_call}
 use Rattle.k42_kinds.specs.OneThread.{OneThread}
 use Rattle.k42_kinds.specs.declared.entry.Act.{Act}
@@ -32,11 +33,11 @@ use Rattle.k42_joined.proofs.RowsCells.{list_here}
 use Rattle.k42_joined.proofs.RowsStamps.{in_own}
 
 -- a swap that was carried out is no call, and none of a row's entries
-not_served : {S O R : Type 0} (one : OneThread S O R) (tag number n : ℕ) (act : Act O) (answer : Answer R) → answer ≡ Swapped n → is_call act ≡ false
-    → IsCallOrMark one tag number act answer → ⊥
-not_served one tag number n (Call op) answer is call served = cc
-not_served one tag number n (Swap to) (Swapped k) is call served = served
-not_served one tag number n act answer is call served = cc
+not_served : {S O R : Type 0} (one : OneThread S O R) (shapes : List Shape) (tag number n : ℕ) (act : Act O) (answer : Answer R) → answer ≡ Swapped n → is_call act ≡ false
+    → IsCallOrMark one shapes tag number act answer → ⊥
+not_served one shapes tag number n (Call op) answer is call served = cc
+not_served one shapes tag number n (Swap to) (Swapped k) is call served = served
+not_served one shapes tag number n act answer is call served = cc
 
 drawn_swap : {O : Type 0} (R : Type 0) (act : Act O) (n : ℕ) → is_drawn {R = R} act (Swapped n) ≡ true
 drawn_swap R (Call op) n = refl
@@ -55,7 +56,7 @@ module _ {S L P O R : Type 0} (F : Layouts S L P O R) (declared : L) (o : ℕ) (
   pub not_in_row : (past : List (Turn L P O R)) (row : Row L P O R) → IsRow F declared o past row → In e row.entries → ⊥
   not_in_row past row is inside =
       let own : IsEntryOf F row.layout o (length past) e = all_at (IsEntryOf F row.layout o (length past)) row.entries e is.own inside in
-      not_served (F.object_of row.layout) (F.tag_of row.layout) (length past) n e.act e.answer answer call own.served
+      not_served (F.object_of row.layout) (F.shapes_of row.layout) (F.tag_of row.layout) (length past) n e.act e.answer answer call own.served
 
   later : (past : List (Turn L P O R)) (turn : Turn L P O R) (f : Entry O R) → IsAbove past turn.done → IsUpTo past f → f.stamp ≤ turn.done.stamp
   later [] turn f above low = absurd low

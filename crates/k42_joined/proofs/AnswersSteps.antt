@@ -1,5 +1,5 @@
 -- What the answers of swaps need of a step that draws no entry.
-use Rattle.std.proofs.Common.{◌≡◌, ℕ, ◌<◌, ◌≤◌, ◌⊎◌, ◌∙◌, List, [], ◌∷◌, ◌++◌, refl, sym, subst, inl, inr, ⊎_elim, arith}
+use Rattle.std.proofs.Common.{◌≡◌, ℕ, ◌<◌, ◌≤◌, ◌⊎◌, ◌∙◌, List, [], ◌∷◌, ◌++◌, refl, sym, ap, subst, inl, inr, ⊎_elim, arith, length}
 use Rattle.std.specs.Prelude.{Some}
 use Rattle.k42_limits.specs.declared.TheConstants.{LAST_INCARNATION}
 use Rattle.k42_kinds.specs.declared.entry.Answer.{Answer}
@@ -16,15 +16,16 @@ use Rattle.k42_joined.specs.State.{many_callers, many_objects, object, swap_of, 
 
 -- the word of an object goes on: its numbers do not fall, and nothing comes after the end
 pub record WordGoesOn (k l : Object) : Type 0 where
+  pub shapes : l.shapes ≡ k.shapes
   pub incarnation : k.incarnation ≤ l.incarnation
   pub number : swap_number k ≤ swap_number l
-  pub over : (k.layout ≡ 2) ⊎ (k.incarnation ≡ LAST_INCARNATION) → IsSameRow k l
+  pub over : (k.layout ≡ length k.shapes) ⊎ (k.incarnation ≡ LAST_INCARNATION) → IsSameRow k l
 
 pub true_on : {R : Type 0} (k l : Object) (i : ℕ) (answer : Answer R) → WordGoesOn k l → IsTrueOf k i answer → IsTrueOf l i answer
 true_on k l i Spent on is =
     let same = on.over (inr is.1) in
-    (is.0 ∙ sym same.incarnation, same.incarnation ∙ is.1, λ two. is.2 (sym same.layout ∙ two))
-true_on k l i Gone on is = let same = on.over (inl is.1) in (is.0 ∙ sym same.incarnation, same.layout ∙ is.1)
+    (is.0 ∙ sym same.incarnation, same.incarnation ∙ is.1, λ two. is.2 (sym same.layout ∙ two ∙ ap length on.shapes))
+true_on k l i Gone on is = let same = on.over (inl is.1) in (is.0 ∙ sym same.incarnation, same.layout ∙ is.1 ∙ ap length (sym on.shapes))
 true_on k l i (Replied reply) on is = tt
 true_on k l i (Swapped number) on is = tt
 true_on k l i (Busy number) on is = tt
@@ -32,8 +33,8 @@ true_on k l i (Abandoned number) on is = tt
 
 -- where the object is over, what is true of its own incarnation stays so
 pub true_now : {R : Type 0} (k l : Object) (answer : Answer R) → WordGoesOn k l → IsTrueOf k k.incarnation answer → IsTrueOf l l.incarnation answer
-true_now k l Spent on is = let same = on.over (inr is.1) in (refl, same.incarnation ∙ is.1, λ two. is.2 (sym same.layout ∙ two))
-true_now k l Gone on is = let same = on.over (inl is.1) in (refl, same.layout ∙ is.1)
+true_now k l Spent on is = let same = on.over (inr is.1) in (refl, same.incarnation ∙ is.1, λ two. is.2 (sym same.layout ∙ two ∙ ap length on.shapes))
+true_now k l Gone on is = let same = on.over (inl is.1) in (refl, same.layout ∙ is.1 ∙ ap length (sym on.shapes))
 true_now k l (Replied reply) on is = tt
 true_now k l (Swapped number) on is = tt
 true_now k l (Busy number) on is = tt

@@ -24,12 +24,13 @@ use Rattle.k42_joined.proofs.AnswersSteps.{WordGoesOn}
 
 -- the numbers of an object's word stay
 pub record IsSameWord (k l : Object) : Type 0 where
+  pub shapes : l.shapes ≡ k.shapes
   pub incarnation : l.incarnation ≡ k.incarnation
   pub layout : l.layout ≡ k.layout
   pub complete : l.complete ≡ k.complete
 
 pub same_word : (k : Object) → IsSameWord k k
-same_word k = record { incarnation = refl; layout = refl; complete = refl }
+same_word k = record { shapes = refl; incarnation = refl; layout = refl; complete = refl }
 
 pub same_number : (k l : Object) → IsSameWord k l → swap_number l ≡ swap_number k
 same_number k l same =
@@ -40,6 +41,7 @@ word_on k l same =
     let number = same_number k l same in
     let i = same.incarnation in
     record {
+      shapes = same.shapes;
       incarnation = omega (arith, i);
       number = omega (arith, number);
       over = λ is. record { incarnation = same.incarnation; layout = same.layout };
@@ -72,22 +74,22 @@ module _ (s : Phases) (o : ℕ) where
   either_word false t u first second = second
 
   interposed_word : (c : ℕ) (swap : SwapAt) → Stays (interposed s c swap)
-  interposed_word c (Begun q) = put q _ (record { incarnation = refl; layout = refl; complete = refl })
-  interposed_word c (Interposing q p) = put q _ (record { incarnation = refl; layout = refl; complete = refl })
+  interposed_word c (Begun q) = put q _ (record { shapes = refl; incarnation = refl; layout = refl; complete = refl })
+  interposed_word c (Interposing q p) = put q _ (record { shapes = refl; incarnation = refl; layout = refl; complete = refl })
   interposed_word c swap = same_word (object_at s o)
 
   opened_word : (c : ℕ) (swap : SwapAt) → Stays (opened s c swap)
-  opened_word c (Opening q p) = put q _ (record { incarnation = refl; layout = refl; complete = refl })
-  opened_word c (Reopening q p) = put q _ (record { incarnation = refl; layout = refl; complete = refl })
+  opened_word c (Opening q p) = put q _ (record { shapes = refl; incarnation = refl; layout = refl; complete = refl })
+  opened_word c (Reopening q p) = put q _ (record { shapes = refl; incarnation = refl; layout = refl; complete = refl })
   opened_word c swap = same_word (object_at s o)
 
   taken_word : (c : ℕ) (notes : List (ℕ × ℕ)) (role : Option ℕ) → Stays (taken_with s c notes role)
   taken_word c notes None = same_word (object_at s o)
   taken_word c notes (Some holder) = same_word (object_at s o)
 
-  one : (q : ℕ) (l : Object) → l.incarnation ≡ (object_at s q).incarnation → l.layout ≡ (object_at s q).layout → l.complete ≡ (object_at s q).complete
+  one : (q : ℕ) (l : Object) → l.shapes ≡ (object_at s q).shapes → l.incarnation ≡ (object_at s q).incarnation → l.layout ≡ (object_at s q).layout → l.complete ≡ (object_at s q).complete
       → IsSameWord (object_at s o) (get_or (set s.objects q l) o fresh_object)
-  one q l i layout complete = put q l (record { incarnation = i; layout = layout; complete = complete })
+  one q l shapes i layout complete = put q l (record { shapes = shapes; incarnation = i; layout = layout; complete = complete })
 
 pub word_stays : (s : Phases) (event : Event) → changes_word event ≡ false → (o : ℕ) → IsSameWord (object_at s o) (object_at (effect s event) o)
 word_stays s (Turn event) keeps o = same_word (object_at s o)
@@ -95,21 +97,21 @@ word_stays s (TakeRoleWith c notes) keeps o = taken_word s o c notes s.turns.rol
 word_stays s (LookUp c q) keeps o = same_word (object_at s o)
 word_stays s (RootLoad c q) keeps o = same_word (object_at s o)
 word_stays s (Install c q) keeps o =
-    either_word s o (is_empty_at (entry_at (object_at s q) (proc_of s c)) (row_of (visitor_at s c).place)) _ _ (one s o q _ refl refl refl) (same_word (object_at s o))
-word_stays s (Knock c q) keeps o = one s o q _ refl refl refl
-word_stays s (StepOut c) keeps o = one s o (object_of (visitor_at s c).place) _ refl refl refl
+    either_word s o (is_empty_at (entry_at (object_at s q) (proc_of s c)) (row_of (visitor_at s c).place)) _ _ (one s o q _ refl refl refl refl) (same_word (object_at s o))
+word_stays s (Knock c q) keeps o = one s o q _ refl refl refl refl
+word_stays s (StepOut c) keeps o = one s o (object_of (visitor_at s c).place) _ refl refl refl refl
 word_stays s (EndCall c) keeps o = same_word (object_at s o)
-word_stays s (Begin c q) keeps o = either_word s o (object_at s q).swap _ _ (same_word (object_at s o)) (one s o q _ refl refl refl)
+word_stays s (Begin c q) keeps o = either_word s o (object_at s q).swap _ _ (same_word (object_at s o)) (one s o q _ refl refl refl refl)
 word_stays s (Interpose c) keeps o = interposed_word s o c (visitor_at s c).swap
-word_stays s (Block c) keeps o = one s o (object_named (visitor_at s c).swap) _ refl refl refl
+word_stays s (Block c) keeps o = one s o (object_named (visitor_at s c).swap) _ refl refl refl refl
 word_stays s (Move c) keeps o =
-    either_word s o (eqb (object_at s (object_named (visitor_at s c).swap)).count 0) _ _ (one s o (object_named (visitor_at s c).swap) _ refl refl refl) (same_word (object_at s o))
+    either_word s o (eqb (object_at s (object_named (visitor_at s c).swap)).count 0) _ _ (one s o (object_named (visitor_at s c).swap) _ refl refl refl refl) (same_word (object_at s o))
 word_stays s (TurnOver c layout) keeps o = absurd (cc)
-word_stays s (Unblock c) keeps o = one s o (object_named (visitor_at s c).swap) _ refl refl refl
+word_stays s (Unblock c) keeps o = one s o (object_named (visitor_at s c).swap) _ refl refl refl refl
 word_stays s (Open c) keeps o = opened_word s o c (visitor_at s c).swap
 word_stays s (Clear c) keeps o = absurd (cc)
 word_stays s (Free c q) keeps o =
-    either_word s o (ltb (object_at s q).freed (unwrap_or (note_at (visitor_at s c).noted q) 0)) _ _ (one s o q _ refl refl refl) (same_word (object_at s o))
+    either_word s o (ltb (object_at s q).freed (unwrap_or (note_at (visitor_at s c).noted q) 0)) _ _ (one s o q _ refl refl refl refl) (same_word (object_at s o))
 
 -- a stage that tells the same
 pub record IsAlike (swap next : SwapAt) : Type 0 where

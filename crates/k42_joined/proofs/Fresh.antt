@@ -19,14 +19,15 @@ use Rattle.turn_core.specs.Plain.{Cell, Caller}
 use Rattle.turn_core.specs.State.{fresh_cell, fresh_caller}
 use Rattle.turn_core.proofs.Fresh.{sound-fresh}
 use Rattle.k42_stamp.specs.Chains.{Chain}
-use Rattle.k42_stamp.specs.Layouts.{Layouts}
+use Rattle.k42_stamp.specs.Layouts.{Layouts, IsLive, shape_of}
 use Rattle.k42_stamp.specs.Lists.{InSome}
 use Rattle.k42_stamp.specs.Orders.{In}
 use Rattle.k42_joined.proofs.RowsStamps.{at_list}
 use Rattle.k42_joined.specs.Plain.{Kept, Joined}
 use Rattle.k42_joined.specs.Answers.{AreAnswered}
 use Rattle.k42_joined.specs.Fitting.{lists_of, HasRows, Fitting}
-use Rattle.k42_joined.specs.Fresh.{first_lives, fresh, IsPlan}
+use Rattle.phase_core.specs.Plain.{ObjectPlan}
+use Rattle.k42_joined.specs.Fresh.{first_lives, fresh, plan_of, IsPlan}
 use Rattle.k42_joined.specs.Locks.{AreOfLives, AreLocked}
 use Rattle.k42_joined.specs.Rows.{history_in}
 use Rattle.k42_joined.specs.Sound.{IsSound}
@@ -77,22 +78,26 @@ fresh_lives i n x y zero_is none x_is y_is =
       next = λ life. record { empty = λ no_hand. refl; begun = λ is. absurd (cc) };
     }))))
 
+-- of an object that is not there
+abbrev no_plan : ObjectPlan
+no_plan = record { shapes = []; layout = 0 }
+
 module _ {S L P O R : Type 0} (F : Layouts S L P O R) (declared : List L) (callers : List ℕ) (plan : IsPlan F declared callers) where
   abbrev s : Joined L O R
   s = fresh F declared callers
 
   objects_many : many_objects s ≡ length declared
-  objects_many = length-map (map F.tag_of declared) (new_object F.procs) ∙ length-map declared F.tag_of
+  objects_many = length-map (map (plan_of F) declared) (new_object F.procs) ∙ length-map declared (plan_of F)
 
   callers_many : many_callers s ≡ length callers
-  callers_many = length-replicate (length callers) (new_visitor (length (map F.tag_of declared)))
+  callers_many = length-replicate (length callers) (new_visitor (length (map (plan_of F) declared)))
 
   procs_many : many_procs s ≡ F.procs
   procs_many = length-replicate F.procs gen.fresh_proc
 
-  object_new : (o : ℕ) → o < many_objects s → object s o ≡ new_object F.procs (get_or (map F.tag_of declared) o 0)
+  object_new : (o : ℕ) → o < many_objects s → object s o ≡ new_object F.procs (get_or (map (plan_of F) declared) o no_plan)
   object_new o named =
-      get_or-map (new_object F.procs) (map F.tag_of declared) o 0 fresh_object (rw (length-map (map F.tag_of declared) (new_object F.procs)) at named)
+      get_or-map (new_object F.procs) (map (plan_of F) declared) o no_plan fresh_object (rw (length-map (map (plan_of F) declared) (new_object F.procs)) at named)
 
   hands_none : (o : ℕ) → layouts_of s o ≡ []
   hands_none o =
@@ -164,7 +169,7 @@ module _ {S L P O R : Type 0} (F : Layouts S L P O R) (declared : List L) (calle
 
   swap_none : (c : ℕ) → swap_of s c ≡ Idle
   swap_none c =
-      ⊎_elim (λ there. ap (λ (x : Visitor). x.swap) (get_or-replicate (length callers) c (new_visitor (length (map F.tag_of declared))) fresh_visitor there))
+      ⊎_elim (λ there. ap (λ (x : Visitor). x.swap) (get_or-replicate (length callers) c (new_visitor (length (map (plan_of F) declared))) fresh_visitor there))
       (λ past. ap (λ (x : Visitor). x.swap) (get_or_past s.phases.callers c fresh_visitor (rw callers_many past)))
       (cases_lt c (length callers))
 
@@ -191,7 +196,7 @@ module _ {S L P O R : Type 0} (F : Layouts S L P O R) (declared : List L) (calle
   abbrev first_chain : L → Chain L P O R
   first_chain layout = record {
     past = [];
-    row = record { layout = layout; start = empty_row (F.ways_of layout) (F.tag_of layout) F.procs; entries = [] };
+    row = record { layout = layout; start = empty_row (F.ways_of layout) (shape_of F layout) F.procs; entries = [] };
   }
 
   history_none : (o p : ℕ) → o < many_objects s → p < F.procs → history_in s o 0 p ≡ []
@@ -201,11 +206,14 @@ module _ {S L P O R : Type 0} (F : Layouts S L P O R) (declared : List L) (calle
     named : o < many_objects s
     named = rw objects_many (slice_get_within declared o layout declares)
 
-    live : F.tag_of layout ≤ 1
+    live : IsLive F layout
     live = plan.live o layout declares
 
-    tag_is : get_or (map F.tag_of declared) o 0 ≡ F.tag_of layout
-    tag_is = get_or_from_slice_get (map F.tag_of declared) o (F.tag_of layout) 0 (slice_get-map F.tag_of declared o ∙ ap (option_map F.tag_of) declares)
+    plan_is : get_or (map (plan_of F) declared) o no_plan ≡ plan_of F layout
+    plan_is = get_or_from_slice_get (map (plan_of F) declared) o (plan_of F layout) no_plan (slice_get-map (plan_of F) declared o ∙ ap (option_map (plan_of F)) declares)
+
+    tag_is : (get_or (map (plan_of F) declared) o no_plan).layout ≡ F.tag_of layout
+    tag_is = ap (λ (start : ObjectPlan). start.layout) plan_is
 
     first_rows : HasRows F s o layout (first_chain layout)
     first_rows = record {
@@ -233,6 +241,7 @@ module _ {S L P O R : Type 0} (F : Layouts S L P O R) (declared : List L) (calle
           subst (λ ls. slice_get (ls ++ layout ∷ []) (length ls - incarnation s o) ≡ Some lay) (hands_none o) is in
           let same : layout ≡ lay = one_of (0 - incarnation s o) layout lay first in
           ap F.tag_of (sym same) ∙ sym tag_is ∙ sym (ap (λ (k : Object). k.layout) (object_new o named));
+      shaped = ap (λ (k : Object). k.shapes) (object_new o named) ∙ ap (λ (start : ObjectPlan). start.shapes) plan_is;
     } where
       one_of : (n : ℕ) (a b : L) → slice_get (a ∷ []) n ≡ Some b → a ≡ b
       one_of zero a b is = same_Some a b is
@@ -280,7 +289,7 @@ module _ {S L P O R : Type 0} (F : Layouts S L P O R) (declared : List L) (calle
 
   pub fresh_sound : IsSound F declared s
   fresh_sound = record {
-    phases = IsSound-new F.procs (map F.tag_of declared) callers plan.phases;
+    phases = IsSound-new F.procs (map (plan_of F) declared) callers plan.phases;
     cells = record { turns = sound-fresh (first_lives (length declared)) (length callers); locks = fresh_locked; rows = fresh_fitting };
     answers = fresh_answered;
   }

@@ -231,12 +231,12 @@ pub moved_not_over : (s : Phases) → IsSound s → (c : ℕ) → c < length s.c
     → (i : ℕ) → is_over_in (object_at s q) i ≡ true → ⊥
 moved_not_over s sound c there q moved i over =
     let ready = moved_is_ready s sound c q there moved in
-    not_over (object_at s q).layout (object_at s q).incarnation ready.alive ready.next (and_parts (is_over (object_at s q)) _ over).0
+    not_over (length (object_at s q).shapes) (object_at s q).layout (object_at s q).incarnation ready.alive ready.next (and_parts (is_over (object_at s q)) _ over).0
   where
-    not_over : (layout incarnation : ℕ) → layout < 2 → incarnation < LAST_INCARNATION → eqb layout 2 || eqb incarnation LAST_INCARNATION ≡ true → ⊥
-    not_over layout incarnation a b e = by_test (eqb layout 2) refl e where
-      by_test : (t : Bool) → eqb layout 2 ≡ t → t || eqb incarnation LAST_INCARNATION ≡ true → ⊥
-      by_test true f g = let h = eqb-true layout 2 f in omega (arith, h, a)
+    not_over : (dead layout incarnation : ℕ) → layout < dead → incarnation < LAST_INCARNATION → eqb layout dead || eqb incarnation LAST_INCARNATION ≡ true → ⊥
+    not_over dead layout incarnation a b e = by_test (eqb layout dead) refl e where
+      by_test : (t : Bool) → eqb layout dead ≡ t → t || eqb incarnation LAST_INCARNATION ≡ true → ⊥
+      by_test true f g = let h = eqb-true layout dead f in omega (arith, h, a)
       by_test false f g = let h = eqb-true incarnation LAST_INCARNATION g in omega (arith, h, b)
 
 pub from_is_moved : (swap : SwapAt) → is_moved swap ≡ true → swap ≡ Moved (object_named swap)

@@ -1,11 +1,11 @@
 -- The rows that fit are one: the histories and the layouts of the hands tell them.
-use Rattle.std.proofs.Common.{◌≡◌, ℕ, ◌<◌, ◌≤◌, ◌∙◌, List, [], ◌∷◌, ◌++◌, length, map, refl, sym, ap, subst, arith}
+use Rattle.std.proofs.Common.{◌≡◌, ℕ, ◌<◌, ◌∙◌, List, [], ◌∷◌, ◌++◌, length, map, refl, sym, ap, subst, arith}
 use Rattle.std.proofs.lemmas.List.{length-map}
 use Rattle.k42_kinds.specs.declared.entry.Entry.{Entry}
 use Rattle.k42_stamp.specs.Chains.{Row, Turn, Chain, start_of, first_of}
 use Rattle.k42_stamp.specs.Fits.{IsEntryOf, IsRow, ArePast, Leaves, PastLeaves, Fits}
 use Rattle.k42_stamp.specs.Laws.{AreLaws}
-use Rattle.k42_stamp.specs.Layouts.{Layouts}
+use Rattle.k42_stamp.specs.Layouts.{Layouts, IsKnown}
 use Rattle.k42_stamp.specs.Orders.{In}
 use Rattle.k42_stamp.specs.Parts.{reach_of, touches, those_at}
 use Rattle.k42_stamp.proofs.Elements.{all_at, in-filter, in-from_filter}
@@ -31,7 +31,7 @@ module _ {S L P O R : Type 0} (F : Layouts S L P O R) (laws : AreLaws F) (declar
       (λ e inside. moved x.layout y.layout layout x.entries y.entries e inside is_x.known (all_at (IsEntryOf F x.layout o (length past)) x.entries e is_x.own inside) left_x left_y)
       (λ e inside. moved y.layout x.layout (sym layout) y.entries x.entries e inside is_y.known (all_at (IsEntryOf F y.layout o (length past)) y.entries e is_y.own inside) left_y left_x))
     where
-      moved : (l m : L) → l ≡ m → (es fs : List (Entry O R)) (e : Entry O R) → In e es → F.tag_of l ≤ 2 → IsEntryOf F l o (length past) e
+      moved : (l m : L) → l ≡ m → (es fs : List (Entry O R)) (e : Entry O R) → In e es → IsKnown F l → IsEntryOf F l o (length past) e
           → ((c : ℕ) → c < F.procs → h (length past) c ≡ first_of past ++ those_at F l c es)
           → ((c : ℕ) → c < F.procs → h (length past) c ≡ first_of past ++ those_at F m c fs) → In e fs
       moved l m same es fs e inside known own left left' =

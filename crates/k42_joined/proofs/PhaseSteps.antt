@@ -32,6 +32,11 @@ pub row_else : (s : Phases) (event : Event) → is_possible s event ≡ true →
     → IsSameRow (object_at s o) (object_at (effect s event) o)
 row_else s event possible not o = ((object_after s event possible).goes o).row not
 
+-- each object keeps its layouts
+pub shapes_else : (s : Phases) (event : Event) → is_possible s event ≡ true → (o : ℕ)
+    → (object_at (effect s event) o).shapes ≡ (object_at s o).shapes
+shapes_else s event possible o = ((object_after s event possible).goes o).shapes
+
 -- the object that is turned over, and any other
 
 pub turns_its : (s : Phases) (c tag : ℕ) → is_possible s (TurnOver c tag) ≡ true

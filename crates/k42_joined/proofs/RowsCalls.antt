@@ -4,6 +4,8 @@ use Rattle.std.specs.List.{slice_get}
 use Rattle.std.specs.Prelude.{Some, None, IsTrue}
 use Rattle.std.proofs.lemmas.Bool.{and_parts, eqb-true}
 use Rattle.std.proofs.lemmas.Option.{same_Some, slice_get_within}
+use Rattle.k42_shapes.specs.declared.shape.Shape.{Shape}
+use Rattle.k42_shapes.specs.Shapes.{IsKnownTag}
 use Rattle.k42_kinds.specs.Rows.{IsWithin}
 use Rattle.k42_kinds.specs.declared.entry.Act.{Act}
 use Rattle.k42_kinds.specs.declared.entry.Act.TheVariants.{Call, Swap}
@@ -80,18 +82,18 @@ pub record IsDrawn {S L P O R : Type 0} (F : Layouts S L P O R) (declared : List
       → AreRowsOf F other (record s { turns = turn_events.effect s.turns (Draw c cells e); kept = kept_drawn s c false }) q z
 
 -- a mark is true of the row, by its layout's tag
-mark_of : {R : Type 0} (k : Object) (tag number : ℕ) (answer : Answer R) → tells_over answer ≡ true → tag ≤ 2 → tag ≡ k.layout → number ≡ k.incarnation
-    → IsTrueOf k k.incarnation answer → IsMarkOf tag number answer
-mark_of k tag number Spent over known same now is = (low tag known (λ two. is.2 (sym same ∙ two)), now ∙ is.1) where
-  low : (tag : ℕ) → tag ≤ 2 → tag ≢ 2 → tag ≤ 1
-  low tag known apart = omega (arith, known, apart)
-mark_of k tag number Gone over known same now is = same ∙ is.1
-mark_of k tag number answer over known same now is = absurd (cc)
+mark_of : {R : Type 0} (k : Object) (shapes : List Shape) (tag number : ℕ) (answer : Answer R) → tells_over answer ≡ true → IsKnownTag shapes tag → shapes ≡ k.shapes
+    → tag ≡ k.layout → number ≡ k.incarnation → IsTrueOf k k.incarnation answer → IsMarkOf shapes tag number answer
+mark_of k shapes tag number Spent over known alike same now is = (low (length shapes) tag known (λ dead. is.2 (sym same ∙ dead ∙ ap length alike)), now ∙ is.1) where
+  low : (dead tag : ℕ) → tag ≤ dead → tag ≢ dead → tag < dead
+  low dead tag known apart = omega (arith, known, apart)
+mark_of k shapes tag number Gone over known alike same now is = same ∙ is.1 ∙ sym (ap length alike)
+mark_of k shapes tag number answer over known alike same now is = absurd (cc)
 
-mark_served : {S O R : Type 0} (one : OneThread S O R) (k : Object) (tag number : ℕ) (act : Act O) (answer : Answer R) → ((op : O) → act ≡ Call op → ⊥)
-    → IsMarkOf tag number answer → IsCallOrMark one tag number act answer
-mark_served one k tag number (Call op) answer not mark = absurd (not op refl)
-mark_served one k tag number (Swap to) answer not mark = mark
+mark_served : {S O R : Type 0} (one : OneThread S O R) (k : Object) (shapes : List Shape) (tag number : ℕ) (act : Act O) (answer : Answer R) → ((op : O) → act ≡ Call op → ⊥)
+    → IsMarkOf shapes tag number answer → IsCallOrMark one shapes tag number act answer
+mark_served one k shapes tag number (Call op) answer not mark = absurd (not op refl)
+mark_served one k shapes tag number (Swap to) answer not mark = mark
 
 no_call_swap : {O : Type 0} (to : To) (op : O) → Swap to ≡ Call op → ⊥
 no_call_swap to op same = cc
@@ -152,8 +154,8 @@ module _ {S L P O R : Type 0} (F : Layouts S L P O R) (laws : AreLaws F) (declar
     takes : IsTrue ((F.object_of x.row.layout).takes op)
     takes = subst (λ (one : OneThread S O R). IsTrue (one.takes op)) (sym has.rows.fits.row.kind) call.takes
 
-    served : (number : ℕ) → IsCallOrMark (F.object_of x.row.layout) (F.tag_of x.row.layout) number e.act e.answer
-    served number = subst (λ act. IsCallOrMark (F.object_of x.row.layout) (F.tag_of x.row.layout) number act e.answer) (sym act) takes
+    served : (number : ℕ) → IsCallOrMark (F.object_of x.row.layout) (F.shapes_of x.row.layout) (F.tag_of x.row.layout) number e.act e.answer
+    served number = subst (λ act. IsCallOrMark (F.object_of x.row.layout) (F.shapes_of x.row.layout) (F.tag_of x.row.layout) number act e.answer) (sym act) takes
 
     within : IsWithin F.procs (reach_of F x.row.layout e)
     within =
@@ -236,10 +238,11 @@ module _ {S L P O R : Type 0} (F : Layouts S L P O R) (laws : AreLaws F) (declar
         (ap (slice_get (layouts_of s e.object ++ declaration ∷ [])) (omega (arith, now))
         ∙ ap (λ layouts. slice_get layouts 0) (sym has.rows.layouts))
 
-    served : IsCallOrMark (F.object_of x.row.layout) (F.tag_of x.row.layout) (length x.past) e.act e.answer
+    served : IsCallOrMark (F.object_of x.row.layout) (F.shapes_of x.row.layout) (F.tag_of x.row.layout) (length x.past) e.act e.answer
     served =
-        mark_served (F.object_of x.row.layout) (object s e.object) (F.tag_of x.row.layout) (length x.past) e.act e.answer not
-        (mark_of (object s e.object) (F.tag_of x.row.layout) (length x.past) e.answer mark.over has.rows.fits.row.known tagged
+        mark_served (F.object_of x.row.layout) (object s e.object) (F.shapes_of x.row.layout) (F.tag_of x.row.layout) (length x.past) e.act e.answer not
+        (mark_of (object s e.object) (F.shapes_of x.row.layout) (F.tag_of x.row.layout) (length x.past) e.answer mark.over has.rows.fits.row.known
+        (laws.alike x.row.layout declaration has.rows.fits.row.kind ∙ sym has.shaped) tagged
         (past_now F laws declared s turns_sound locked rows c cells e there core declaration x declares at mark.present within reached)
         (own.found e.object e.answer mark.begun mark.found).over)
 

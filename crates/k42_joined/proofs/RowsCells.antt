@@ -63,6 +63,7 @@ module _ {S L P O R : Type 0} (F : Layouts S L P O R) (declared : List L) (s : J
       layouts = has.rows.layouts;
     };
     tagged = has.tagged;
+    shaped = has.shaped;
   }
 
   -- only locks, places and what is held change

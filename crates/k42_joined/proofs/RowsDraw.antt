@@ -6,6 +6,7 @@ use Rattle.std.proofs.lemmas.Bool.{and_parts, eq-eqb, cases_eq, lt-ltb}
 use Rattle.std.proofs.lemmas.Bool.Decides.{nat_tests}
 use Rattle.std.proofs.lemmas.List.{length-map}
 use Rattle.std.proofs.lemmas.Option.{same_Some, slice_get_within}
+use Rattle.k42_shapes.specs.declared.shape.Shape.{Shape}
 use Rattle.k42_kinds.specs.OneThread.{OneThread}
 use Rattle.k42_kinds.specs.Rows.{IsWithin}
 use Rattle.k42_kinds.specs.declared.entry.Act.{Act}
@@ -65,11 +66,12 @@ core_draw s c cells e can =
     record { once = first.1; opened = second.1; next = next_parts s c cells e third.1 }
 
 -- each entry of a row was drawn at cells
-served_drawn : {S O R : Type 0} (object : OneThread S O R) (tag number : ℕ) (act : Act O) (answer : Answer R) → IsCallOrMark object tag number act answer → is_drawn act answer ≡ true
-served_drawn object tag number (Call op) answer served = refl
-served_drawn object tag number (Swap to) Spent served = refl
-served_drawn object tag number (Swap to) Gone served = refl
-served_drawn object tag number act answer served = absurd served
+served_drawn : {S O R : Type 0} (object : OneThread S O R) (shapes : List Shape) (tag number : ℕ) (act : Act O) (answer : Answer R)
+    → IsCallOrMark object shapes tag number act answer → is_drawn act answer ≡ true
+served_drawn object shapes tag number (Call op) answer served = refl
+served_drawn object shapes tag number (Swap to) Spent served = refl
+served_drawn object shapes tag number (Swap to) Gone served = refl
+served_drawn object shapes tag number act answer served = absurd served
 
 in_told : {O R : Type 0} (f e : Entry O R) (h : List (Entry O R)) (b : Bool) → In f (cond b (h ++ e ∷ []) h) → (f ≡ e) ⊎ In f h
 in_told f e h true is = ⊎_elim (λ old. inr old) (λ new. ⊎_elim (λ same. inl same) (λ none. absurd none) new) (in-append f h (e ∷ []) is)
@@ -149,7 +151,7 @@ module _ {S L P O R : Type 0} (F : Layouts S L P O R) (laws : AreLaws F) (declar
   history_now p lt =
       ap (λ row. history_in s o row p) past_now ∙ at_present_life (cell_in s o i p) (i / 2) (locked.lives o p named lt).present.past
 
-  module _ (served : IsCallOrMark (F.object_of x.row.layout) (F.tag_of x.row.layout) (length x.past) e.act e.answer)
+  module _ (served : IsCallOrMark (F.object_of x.row.layout) (F.shapes_of x.row.layout) (F.tag_of x.row.layout) (length x.past) e.act e.answer)
       (replied : (part_steps F x.row.layout).answers (parts_of F x.row) e ≡ (part_steps F x.row.layout).tells e) where
     next : IsNext F o (history_in s o) x e
     next = record {
@@ -162,7 +164,7 @@ module _ {S L P O R : Type 0} (F : Layouts S L P O R) (laws : AreLaws F) (declar
           (λ f is same.
           let inside = chain_in_rows F declaration o (history_in s o) laws x f has.rows.fits (in_right f (past_entries x.past) x.row.entries is) in
           let own : IsEntryOf F x.row.layout o (length x.past) f = all_at (IsEntryOf F x.row.layout o (length x.past)) x.row.entries f has.rows.fits.row.own is in
-          let listed = in_own s.turns sound f (rows.those.given o x f at inside (served_drawn (F.object_of x.row.layout) (F.tag_of x.row.layout) (length x.past) f.act f.answer own.served)) in
+          let listed = in_own s.turns sound f (rows.those.given o x f at inside (served_drawn (F.object_of x.row.layout) (F.shapes_of x.row.layout) (F.tag_of x.row.layout) (length x.past) f.act f.answer own.served)) in
           above_own s.turns sound c cells e core.next f (subst (λ d. In f (mine s d)) (same ∙ core.next.caller) listed.1));
       replied = replied;
     }
@@ -258,6 +260,7 @@ module _ {S L P O R : Type 0} (F : Layouts S L P O R) (laws : AreLaws F) (declar
         layouts = has.rows.layouts;
       };
       tagged = has.tagged;
+      shaped = has.shaped;
     }
 
     -- the rows of another object stay
@@ -274,6 +277,7 @@ module _ {S L P O R : Type 0} (F : Layouts S L P O R) (laws : AreLaws F) (declar
         layouts = old.rows.layouts;
       };
       tagged = old.tagged;
+      shaped = old.shaped;
     }
 
     grows : Grows F.procs (history_in s) (history_in t) rows.chains newer e

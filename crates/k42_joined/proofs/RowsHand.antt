@@ -122,7 +122,11 @@ module _ {S L P O R : Type 0} (F : Layouts S L P O R) (laws : AreLaws F) (declar
           let n = cell_of o i p in
           let named_in : names (from ++ onto) n ≡ true = names_more from onto n (rw may.beside.closes (row_names (many_procs s) o i p (in_procs p lt))) in
           above_cell s.turns turns_sound c (from ++ onto) e next n named_in f (subst (λ (h : List (Entry O R)). In f h) (history_now p (in_procs p lt)) is));
-      live = let low = ready.alive in let same = tagged_now in omega (arith, low, same);
+      live =
+          let low = ready.alive in
+          let same = tagged_now in
+          let many = ap length (has.shaped ∙ sym (laws.alike x.row.layout declaration has.rows.fits.row.kind)) in
+          omega (arith, low, same, many);
       unspent = let low = ready.next in let same = past_now in omega (arith, low, same);
     }
 
@@ -203,6 +207,7 @@ module _ {S L P O R : Type 0} (F : Layouts S L P O R) (laws : AreLaws F) (declar
             ∙ sym (ap (λ ls. ls ++ declaration ∷ []) (hands_here F declared s locked c from onto layout e may named));
       };
       tagged = here_tagged;
+      shaped = has.shaped;
     }
 
     rows_else : (q : ℕ) (other : L) (z : Chain L P O R) → q ≢ o → AreRowsOf F other s q z → AreRowsOf F other t q z
@@ -220,6 +225,7 @@ module _ {S L P O R : Type 0} (F : Layouts S L P O R) (laws : AreLaws F) (declar
             layouts = old.rows.layouts ∙ sym (ap (λ ls. ls ++ other ∷ []) same);
           };
           tagged = λ lay is. old.tagged lay (subst (λ ls. slice_get (ls ++ other ∷ []) (length ls - incarnation s q) ≡ Some lay) same is);
+          shaped = old.shaped;
         }
 
     grows : Grows F.procs (history_in s) (history_in t) rows.chains newer e

@@ -29,7 +29,7 @@ use Rattle.k42_joined.specs.Possible.{MayAtPhases}
 use Rattle.k42_joined.specs.State.{many_callers, many_objects, incarnation, swap_of, held, layouts_of, many_hands, is_handed}
 use Rattle.k42_joined.specs.Swapping.{holds_none, is_newest_tag}
 use Rattle.k42_joined.proofs.LocksPhases.{turned_ahead}
-use Rattle.k42_joined.proofs.PhaseSteps.{only_its_caller, row_else, turned_here, turned_else}
+use Rattle.k42_joined.proofs.PhaseSteps.{only_its_caller, row_else, shapes_else, turned_here, turned_else}
 
 -- no event moves a caller to another processor
 
@@ -156,6 +156,7 @@ module _ {S L P O R : Type 0} (F : Layouts S L P O R) (declared : List L) (s : J
           rows = record { fits = has.rows.fits; layouts = has.rows.layouts };
           tagged = tagged_by event (turns_over event) refl there may o
               (rw (← rows.objects) (slice_get_within declared o declaration declares)) declaration has.tagged;
+          shaped = shapes_else s.phases event may.core o ∙ has.shaped;
         };
     those = rows.those;
   }

@@ -1,10 +1,11 @@
 -- A counter kept in one part, or in a part for each of two processors: layouts for the computed examples.
-use Rattle.std.proofs.Common.{◌≡◌, ℕ, zero, suc, ◌+◌, ◌<◌, Bool, true, false, eqb, List, [], ◌∷◌, length, refl, ap, ◌∙◌, arith}
+use Rattle.std.proofs.Common.{◌≡◌, ℕ, zero, suc, ◌+◌, ◌<◌, Bool, true, false, List, [], ◌∷◌, length, refl, ap, ◌∙◌, arith}
 use Rattle.std.specs.Prelude.{Some, IsTrue, option_map, ⊤}
 use Rattle.k42_kinds.specs.Histories.{is_call}
 use Rattle.k42_kinds.specs.LayoutLaws.{StepsRow, Begins, Imports, AdmitsAsSwapped}
 use Rattle.k42_kinds.specs.OneThread.{OneThread, ends_as}
-use Rattle.k42_kinds.specs.Rows.{Ways, made_from, cells_of, part_at, changed_at, IsWithin}
+use Rattle.k42_kinds.specs.Rows.{Ways, made_from, part_at, changed_at, IsWithin}
+use Rattle.k42_shapes.specs.Shapes.{cells_of, is_dead_tag, shape_at, shared_and_spread}
 use Rattle.k42_kinds.specs.declared.entry.Act.{Act}
 use Rattle.k42_kinds.specs.declared.entry.Act.TheVariants.{Swap}
 use Rattle.k42_kinds.specs.declared.entry.To.TheVariants.{Layout}
@@ -87,9 +88,10 @@ proc_of _ = 0
 abbrev pub F : Layouts ℕ Toy ℕ Op Reply
 F = record {
   object_of = λ layout. counter;
+  shapes_of = λ layout. shared_and_spread;
   tag_of = tag;
   ways_of = ways;
-  Whole = λ layout procs parts. length parts ≡ cells_of (tag layout) procs;
+  Whole = λ layout procs parts. length parts ≡ cells_of (shape_at shared_and_spread (tag layout)) procs;
   Serves = λ layout value. ⊤;
   admitted = λ layout value. value;
   act_of = act;
@@ -123,8 +125,8 @@ alone [] long = absurd (cc)
 alone (p ∷ []) long = (p, refl)
 alone (p ∷ q ∷ parts) long = absurd (omega (arith, long))
 
-step : (layout : Toy) (proc : ℕ) (parts : List ℕ) (op : Op) → proc < 2 → IsTrue (takes op) → length parts ≡ cells_of (tag layout) 2
-    → StepsRow counter (ways layout) (λ row. length row ≡ cells_of (tag layout) 2) parts op (reach layout 2 op proc)
+step : (layout : Toy) (proc : ℕ) (parts : List ℕ) (op : Op) → proc < 2 → IsTrue (takes op) → length parts ≡ cells_of (shape_at shared_and_spread (tag layout)) 2
+    → StepsRow counter (ways layout) (λ row. length row ≡ cells_of (shape_at shared_and_spread (tag layout)) 2) parts op (reach layout 2 op proc)
 step one_part proc [] op lt may long = absurd (cc)
 step one_part proc (p ∷ []) (Add n) lt may long = record { whole = refl; moved = omega arith; replied = refl }
 step one_part proc (p ∷ []) Get lt may long = record { whole = refl; moved = refl; replied = ap (λ v. Some (Number v)) (omega arith) }
@@ -138,20 +140,20 @@ step spread proc parts (Add n) lt may long = record {
 step spread proc parts Get lt may long = record { whole = long; moved = refl; replied = refl }
 step spread proc parts op lt may long = absurd (cc)
 
-within : (layout : Toy) (proc : ℕ) (op : Op) → proc < 2 → IsWithin (cells_of (tag layout) 2) (reach layout 2 op proc)
+within : (layout : Toy) (proc : ℕ) (op : Op) → proc < 2 → IsWithin (cells_of (shape_at shared_and_spread (tag layout)) 2) (reach layout 2 op proc)
 within one_part proc op lt = omega arith
 within spread proc (Add n) lt = lt
 within spread proc op lt = omega arith
 
-begun : (layout : Toy) → Begins counter (ways layout) (λ row. length row ≡ cells_of (tag layout) 2) (tag layout) 2
+begun : (layout : Toy) → Begins counter (ways layout) (λ row. length row ≡ cells_of (shape_at shared_and_spread (tag layout)) 2) shared_and_spread (tag layout) 2
 begun one_part = record { whole = refl; empty = λ live. refl }
 begun spread = record { whole = refl; empty = λ live. refl }
 
-import : (layout : Toy) (value : ℕ) → Imports (ways layout) (λ row. length row ≡ cells_of (tag layout) 2) 2 value
+import : (layout : Toy) (value : ℕ) → Imports (ways layout) (λ row. length row ≡ cells_of (shape_at shared_and_spread (tag layout)) 2) 2 value
 import one_part value = record { whole = refl; back = omega arith }
 import spread value = record { whole = refl; back = omega arith }
 
-ended : (layout : Toy) → false ≡ eqb (tag layout) 2
+ended : (layout : Toy) → false ≡ is_dead_tag shared_and_spread (tag layout)
 ended one_part = refl
 ended spread = refl
 
@@ -181,4 +183,6 @@ laws = record {
   admits = λ layout before value known live same served. tt;
   swaps = λ layout value known. swapped layout value;
   asks = λ layout. not_call layout;
+  alike = λ layout other same. refl;
+  few = λ layout. omega arith;
 }

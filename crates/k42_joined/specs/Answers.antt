@@ -1,5 +1,5 @@
 -- What stays true of the answers of swaps, and of what is kept beside.
-use Rattle.std.specs.Prelude.{◌≡◌, ◌≢◌, ◌⊎◌, ℕ, ◌+◌, ◌<◌, ◌≤◌, Bool, true, false, ◌||◌, ⊤, List, [], ◌∷◌, ◌++◌, Some}
+use Rattle.std.specs.Prelude.{◌≡◌, ◌≢◌, ◌⊎◌, ℕ, ◌+◌, ◌<◌, ◌≤◌, Bool, true, false, ◌||◌, ⊤, List, [], ◌∷◌, ◌++◌, length, Some}
 use Rattle.k42_limits.specs.declared.TheConstants.{LAST_INCARNATION}
 use Rattle.k42_kinds.specs.declared.entry.Answer.{Answer}
 use Rattle.k42_kinds.specs.declared.entry.Answer.TheVariants.{Replied, Swapped, Busy, Spent, Gone, Abandoned}
@@ -50,8 +50,8 @@ AreTimely entries =
 
 -- an answer that tells of a dead object, or of one at its last incarnation, tells the truth
 abbrev pub IsTrueOf : {R : Type 0} → Object → ℕ → Answer R → Type 0
-IsTrueOf k i Spent = (i ≡ k.incarnation) × (k.incarnation ≡ LAST_INCARNATION) × (k.layout ≢ 2)
-IsTrueOf k i Gone = (i ≡ k.incarnation) × (k.layout ≡ 2)
+IsTrueOf k i Spent = (i ≡ k.incarnation) × (k.incarnation ≡ LAST_INCARNATION) × (k.layout ≢ length k.shapes)
+IsTrueOf k i Gone = (i ≡ k.incarnation) × (k.layout ≡ length k.shapes)
 IsTrueOf k i _ = ⊤
 
 module _ {L O R : Type 0} (s : Joined L O R) where

@@ -33,6 +33,8 @@ pub record HasRows
     : Type 0 where
   pub rows : AreRowsOf F declaration s o chain
   pub tagged : HasItsTag F declaration s o
+  -- it has the layouts that were declared
+  pub shaped : (object s o).shapes ≡ F.shapes_of declaration
 
 pub record Fitting {S L P O R : Type 0} (F : Layouts S L P O R) (declared : List L) (s : Joined L O R) : Type 0 where
   pub told : AreFor F s

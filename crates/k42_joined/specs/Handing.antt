@@ -3,7 +3,7 @@ use Rattle.std.specs.Prelude.{◌≡◌, ◌⊎◌, ℕ, ◌+◌, ◌≤◌, fal
 use Rattle.k42_kinds.specs.declared.entry.Answer.TheVariants.{Swapped}
 use Rattle.k42_kinds.specs.declared.entry.Entry.{Entry}
 use Rattle.phase_core.specs.declared.caller.SwapAt.TheVariants.{Moved}
-use Rattle.k42_stamp.specs.Layouts.{Layouts}
+use Rattle.k42_stamp.specs.Layouts.{Layouts, IsKnown}
 use Rattle.k42_joined.specs.Plain.{Joined}
 use Rattle.k42_joined.specs.State.{object, incarnation, swap_of, is_handed, many_procs}
 use Rattle.k42_joined.specs.Numbers.{row_cells}
@@ -25,7 +25,7 @@ pub record MayHand
   pub declaration : L
   pub declares : slice_get declared entry.object ≡ Some declaration
   pub kind : F.object_of layout ≡ F.object_of declaration
-  pub known : F.tag_of layout ≤ 2
+  pub known : IsKnown F layout
   pub present : entry.incarnation ≡ incarnation s entry.object
   pub act : entry.act ≡ F.act_of layout
   pub answer : entry.answer ≡ Swapped (incarnation s entry.object + 1)

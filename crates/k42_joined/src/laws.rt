@@ -28,7 +28,7 @@ use k42_kinds::Layout;
 pub fn stays_sound<L: Layout>(procs: u32)
     requires { 0 < procs }
     ensures { (proc_of : ℕ → ℕ) → ((caller : ℕ) → proc_of caller < procs) →
-        let F = layouts_with L.object L.tag_of L.ways L.whole L.serves L.admitted L.act_of procs proc_of in
+        let F = layouts_with L.object L.shapes L.tag_of L.ways L.whole L.serves L.admitted L.act_of procs proc_of in
         (declared : List L) (s : Joined L L.Op L.Reply) → IsReached F declared s →
         IsSound F declared s }
 {}
@@ -37,7 +37,7 @@ pub fn stays_sound<L: Layout>(procs: u32)
 pub fn each_event_keeps<L: Layout>(procs: u32)
     requires { 0 < procs }
     ensures { (proc_of : ℕ → ℕ) → ((caller : ℕ) → proc_of caller < procs) →
-        let F = layouts_with L.object L.tag_of L.ways L.whole L.serves L.admitted L.act_of procs proc_of in
+        let F = layouts_with L.object L.shapes L.tag_of L.ways L.whole L.serves L.admitted L.act_of procs proc_of in
         (declared : List L) (s : Joined L L.Op L.Reply) (event : Event L L.Op L.Reply) →
         IsSound F declared s →
         IsPossible F declared s event → IsSound F declared (effect s event) }
@@ -48,7 +48,7 @@ pub fn each_event_keeps<L: Layout>(procs: u32)
 pub fn sound_states_are_safe<L: Layout>(procs: u32)
     requires { 0 < procs }
     ensures { (proc_of : ℕ → ℕ) → ((caller : ℕ) → proc_of caller < procs) →
-        let F = layouts_with L.object L.tag_of L.ways L.whole L.serves L.admitted L.act_of procs proc_of in
+        let F = layouts_with L.object L.shapes L.tag_of L.ways L.whole L.serves L.admitted L.act_of procs proc_of in
         (declared : List L) (s : Joined L L.Op L.Reply) → IsSound F declared s → IsSafe s }
 {}
 
@@ -57,7 +57,7 @@ pub fn sound_states_are_safe<L: Layout>(procs: u32)
 pub fn trace_is_legal<L: Layout>(procs: u32)
     requires { 0 < procs }
     ensures { (proc_of : ℕ → ℕ) → ((caller : ℕ) → proc_of caller < procs) →
-        let F = layouts_with L.object L.tag_of L.ways L.whole L.serves L.admitted L.act_of procs proc_of in
+        let F = layouts_with L.object L.shapes L.tag_of L.ways L.whole L.serves L.admitted L.act_of procs proc_of in
         (declared : List L) (s : Joined L L.Op L.Reply) (merged : List (Entry L.Op L.Reply)) →
         IsSound F declared s →
         IsMerged (lists_of s) merged → AreLegal F declared is_drawn merged }
@@ -67,7 +67,7 @@ pub fn trace_is_legal<L: Layout>(procs: u32)
 pub fn rows_are_freed_once<L: Layout>(procs: u32)
     requires { 0 < procs }
     ensures { (proc_of : ℕ → ℕ) → ((caller : ℕ) → proc_of caller < procs) →
-        let F = layouts_with L.object L.tag_of L.ways L.whole L.serves L.admitted L.act_of procs proc_of in
+        let F = layouts_with L.object L.shapes L.tag_of L.ways L.whole L.serves L.admitted L.act_of procs proc_of in
         (declared : List L) (s t : Joined L L.Op L.Reply) (events : List (Event L L.Op L.Reply)) →
         Leads F declared events s t →
         IsFreedOnce F declared s t }
@@ -77,7 +77,7 @@ pub fn rows_are_freed_once<L: Layout>(procs: u32)
 pub fn readers_leave_before<L: Layout>(procs: u32)
     requires { 0 < procs }
     ensures { (proc_of : ℕ → ℕ) → ((caller : ℕ) → proc_of caller < procs) →
-        let F = layouts_with L.object L.tag_of L.ways L.whole L.serves L.admitted L.act_of procs proc_of in
+        let F = layouts_with L.object L.shapes L.tag_of L.ways L.whole L.serves L.admitted L.act_of procs proc_of in
         (declared : List L) (s t : Joined L L.Op L.Reply) (events : List (Event L L.Op L.Reply))
         (last : Event L L.Op L.Reply) (c o i : ℕ) →
         IsSound F declared s → Leads F declared events s t → IsPossible F declared t last →
@@ -89,7 +89,7 @@ pub fn readers_leave_before<L: Layout>(procs: u32)
 pub fn trace_at_rest_is_a_history<L: Layout>(procs: u32)
     requires { 0 < procs }
     ensures { (proc_of : ℕ → ℕ) → ((caller : ℕ) → proc_of caller < procs) →
-        let F = layouts_with L.object L.tag_of L.ways L.whole L.serves L.admitted L.act_of procs proc_of in
+        let F = layouts_with L.object L.shapes L.tag_of L.ways L.whole L.serves L.admitted L.act_of procs proc_of in
         (declared : List L) (s : Joined L L.Op L.Reply) (merged : List (Entry L.Op L.Reply)) →
         IsSound F declared s → IsAtRest s →
         IsMerged (lists_of s) merged → IsHistoryOf F declared s merged }
@@ -100,7 +100,7 @@ pub fn trace_at_rest_is_a_history<L: Layout>(procs: u32)
 pub fn stamps_pass_what_was_seen<L: Layout>(procs: u32)
     requires { 0 < procs }
     ensures { (proc_of : ℕ → ℕ) → ((caller : ℕ) → proc_of caller < procs) →
-        let F = layouts_with L.object L.tag_of L.ways L.whole L.serves L.admitted L.act_of procs proc_of in
+        let F = layouts_with L.object L.shapes L.tag_of L.ways L.whole L.serves L.admitted L.act_of procs proc_of in
         (declared : List L) (s : Joined L L.Op L.Reply) (event : Event L L.Op L.Reply)
         (drawn : Drawn L.Op L.Reply) (seen : Entry L.Op L.Reply) →
         IsSound F declared s → IsPossible F declared s event → drawn_by event ≡ Some drawn →
@@ -111,7 +111,7 @@ pub fn stamps_pass_what_was_seen<L: Layout>(procs: u32)
 pub fn what_follows_a_skip_is_later<L: Layout>(procs: u32)
     requires { 0 < procs }
     ensures { (proc_of : ℕ → ℕ) → ((caller : ℕ) → proc_of caller < procs) →
-        let F = layouts_with L.object L.tag_of L.ways L.whole L.serves L.admitted L.act_of procs proc_of in
+        let F = layouts_with L.object L.shapes L.tag_of L.ways L.whole L.serves L.admitted L.act_of procs proc_of in
         (declared : List L) (s t : Joined L L.Op L.Reply) (c stamp : ℕ)
         (events : List (Event L L.Op L.Reply)) (event : Event L L.Op L.Reply)
         (drawn : Drawn L.Op L.Reply) → IsSound F declared s →
@@ -124,7 +124,7 @@ pub fn what_follows_a_skip_is_later<L: Layout>(procs: u32)
 pub fn others_stay<L: Layout>(procs: u32)
     requires { 0 < procs }
     ensures { (proc_of : ℕ → ℕ) → ((caller : ℕ) → proc_of caller < procs) →
-        let F = layouts_with L.object L.tag_of L.ways L.whole L.serves L.admitted L.act_of procs proc_of in
+        let F = layouts_with L.object L.shapes L.tag_of L.ways L.whole L.serves L.admitted L.act_of procs proc_of in
         (declared : List L) (s : Joined L L.Op L.Reply) (event : Event L L.Op L.Reply) →
         IsSound F declared s →
         IsPossible F declared s event →
@@ -135,7 +135,7 @@ pub fn others_stay<L: Layout>(procs: u32)
 pub fn rows_that_fit_are_one<L: Layout>(procs: u32)
     requires { 0 < procs }
     ensures { (proc_of : ℕ → ℕ) → ((caller : ℕ) → proc_of caller < procs) →
-        let F = layouts_with L.object L.tag_of L.ways L.whole L.serves L.admitted L.act_of procs proc_of in
+        let F = layouts_with L.object L.shapes L.tag_of L.ways L.whole L.serves L.admitted L.act_of procs proc_of in
         (declaration : L) (s : Joined L L.Op L.Reply) (o : ℕ) (x y : Chain L L.Part L.Op L.Reply) →
         AreRowsOf F declaration s o x → AreRowsOf F declaration s o y → x ≡ y }
 {}
@@ -144,7 +144,7 @@ pub fn rows_that_fit_are_one<L: Layout>(procs: u32)
 pub fn parts_follow_draws<L: Layout>(procs: u32)
     requires { 0 < procs }
     ensures { (proc_of : ℕ → ℕ) → ((caller : ℕ) → proc_of caller < procs) →
-        let F = layouts_with L.object L.tag_of L.ways L.whole L.serves L.admitted L.act_of procs proc_of in
+        let F = layouts_with L.object L.shapes L.tag_of L.ways L.whole L.serves L.admitted L.act_of procs proc_of in
         (declared : List L) (s : Joined L L.Op L.Reply) (o c : ℕ) (declaration : L)
         (x y : Chain L L.Part L.Op L.Reply)
         (cells : List ℕ) (entry : Entry L.Op L.Reply) → IsSound F declared s →
@@ -158,7 +158,7 @@ pub fn parts_follow_draws<L: Layout>(procs: u32)
 pub fn parts_follow_hands<L: Layout>(procs: u32)
     requires { 0 < procs }
     ensures { (proc_of : ℕ → ℕ) → ((caller : ℕ) → proc_of caller < procs) →
-        let F = layouts_with L.object L.tag_of L.ways L.whole L.serves L.admitted L.act_of procs proc_of in
+        let F = layouts_with L.object L.shapes L.tag_of L.ways L.whole L.serves L.admitted L.act_of procs proc_of in
         (declared : List L) (s : Joined L L.Op L.Reply) (o c : ℕ) (declaration layout : L)
         (x y : Chain L L.Part L.Op L.Reply)
         (from onto : List ℕ) (entry : Entry L.Op L.Reply) → IsSound F declared s →
@@ -172,7 +172,7 @@ pub fn parts_follow_hands<L: Layout>(procs: u32)
 pub fn rows_stay_else<L: Layout>(procs: u32)
     requires { 0 < procs }
     ensures { (proc_of : ℕ → ℕ) → ((caller : ℕ) → proc_of caller < procs) →
-        let F = layouts_with L.object L.tag_of L.ways L.whole L.serves L.admitted L.act_of procs proc_of in
+        let F = layouts_with L.object L.shapes L.tag_of L.ways L.whole L.serves L.admitted L.act_of procs proc_of in
         (declared : List L) (s : Joined L L.Op L.Reply) (event : Event L L.Op L.Reply) (o : ℕ)
         (declaration : L)
         (x : Chain L L.Part L.Op L.Reply) → IsSound F declared s → IsPossible F declared s event →
@@ -184,7 +184,7 @@ pub fn rows_stay_else<L: Layout>(procs: u32)
 pub fn moves_and_frees_alone<L: Layout>(procs: u32)
     requires { 0 < procs }
     ensures { (proc_of : ℕ → ℕ) → ((caller : ℕ) → proc_of caller < procs) →
-        let F = layouts_with L.object L.tag_of L.ways L.whole L.serves L.admitted L.act_of procs proc_of in
+        let F = layouts_with L.object L.shapes L.tag_of L.ways L.whole L.serves L.admitted L.act_of procs proc_of in
         (declared : List L) (s : Joined L L.Op L.Reply) (c d o : ℕ) → IsSound F declared s →
         c < many_callers s →
         d < many_callers s → o < many_objects s → IsAloneAt s.phases c o → IsAloneAt s.phases d o → c ≡ d }

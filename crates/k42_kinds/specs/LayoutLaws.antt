@@ -1,12 +1,14 @@
 -- What a layout owes the object of one thread.
-use Rattle.std.specs.Prelude.{◌≡◌, ℕ, ◌<◌, ◌≤◌, List, length, Some}
+use Rattle.std.specs.Prelude.{◌≡◌, ℕ, ◌<◌, List, length, Some}
 use Rattle.k42_kinds.specs.declared.entry.Act.{Act}
 use Rattle.k42_kinds.specs.declared.entry.Answer.TheVariants.{Swapped}
 use Rattle.k42_kinds.specs.declared.entry.Reach.{Reach}
 use Rattle.k42_kinds.specs.declared.entry.Reach.TheVariants.{One}
+use Rattle.k42_shapes.specs.declared.shape.Shape.{Shape}
 use Rattle.k42_kinds.specs.OneThread.{OneThread}
 use Rattle.k42_kinds.specs.Histories.{state_moved}
-use Rattle.k42_kinds.specs.Rows.{Ways, part_at, row_moved, row_replied, cells_of, empty_row}
+use Rattle.k42_kinds.specs.Rows.{Ways, part_at, row_moved, row_replied, empty_row}
+use Rattle.k42_shapes.specs.Shapes.{cells_of, IsLiveTag, shape_at}
 
 -- an operation at these cells of the row is the step of the object, and leaves the row whole
 pub record StepsRow
@@ -19,18 +21,18 @@ pub record StepsRow
 
 -- a whole row has the cells that are due, and stands for a state that the layout serves
 pub record StandsFor
-    {S P O R : Type 0} (ways : Ways S P O R) (Serves : S → Type 0) (tag procs : ℕ) (parts : List P)
+    {S P O R : Type 0} (ways : Ways S P O R) (Serves : S → Type 0) (shape : Shape) (procs : ℕ) (parts : List P)
     : Type 0 where
-  pub sized : length parts ≡ cells_of tag procs
+  pub sized : length parts ≡ cells_of shape procs
   pub served : Serves (ways.combine parts)
 
 -- empty parts are a whole row, which stands for the empty state unless the layout is the dead one
 pub record Begins
     {S P O R : Type 0} (object : OneThread S O R) (ways : Ways S P O R) (Whole : List P → Type 0)
-    (tag procs : ℕ)
+    (shapes : List Shape) (tag procs : ℕ)
     : Type 0 where
-  pub whole : Whole (empty_row ways tag procs)
-  pub empty : tag ≤ 1 → ways.combine (empty_row ways tag procs) ≡ object.start
+  pub whole : Whole (empty_row ways (shape_at shapes tag) procs)
+  pub empty : IsLiveTag shapes tag → ways.combine (empty_row ways (shape_at shapes tag) procs) ≡ object.start
 
 -- what is made of a state is a whole row that stands for it
 pub record Imports

@@ -1,7 +1,9 @@
 -- Rows of parts: an object is kept as a row of cells with a part in each.
-use Rattle.std.specs.Prelude.{ℕ, zero, suc, ◌<◌, ◌==◌, if◌then◌else◌, List, [], ◌∷◌, Option, Some, None, option_map}
+use Rattle.std.specs.Prelude.{ℕ, zero, suc, ◌<◌, List, [], ◌∷◌, Option, Some, None, option_map}
 use Rattle.k42_kinds.specs.declared.entry.Reach.{Reach}
 use Rattle.k42_kinds.specs.declared.entry.Reach.TheVariants.{One, All}
+use Rattle.k42_shapes.specs.declared.shape.Shape.{Shape}
+use Rattle.k42_shapes.specs.Shapes.{cells_of}
 
 -- what a layout does with the parts of a row
 pub record Ways (S P O R : Type 0) : Type 0 where
@@ -19,18 +21,14 @@ pub record Ways (S P O R : Type 0) : Type 0 where
   pub combine : List P → S
   pub imported : ℕ → S → List P
 
--- a row has a cell for each processor where the layout is spread, and one otherwise
-abbrev pub cells_of : ℕ → ℕ → ℕ
-cells_of tag procs = if tag == 1 then procs else 1
-
 -- the values of the function at so many numbers from the first on
 abbrev pub made_from : {P : Type 0} → (ℕ → P) → ℕ → ℕ → List P
 made_from make first zero = []
 made_from make first (suc more) = make first ∷ made_from make (suc first) more
 
 -- the row with which an object begins
-abbrev pub empty_row : {S P O R : Type 0} → Ways S P O R → ℕ → ℕ → List P
-empty_row ways tag procs = made_from (ways.empty procs) 0 (cells_of tag procs)
+abbrev pub empty_row : {S P O R : Type 0} → Ways S P O R → Shape → ℕ → List P
+empty_row ways shape procs = made_from (ways.empty procs) 0 (cells_of shape procs)
 
 abbrev pub part_at : {P : Type 0} → List P → ℕ → Option P
 part_at [] cell = None

@@ -2,6 +2,7 @@
 ghost use Rattle.std.specs.Prelude.{◌≡◌, ◌<◌, ◌≤◌, IsTrue, IfOk, OnErr};
 ghost use Rattle.k42_limits.specs.declared.TheConstants.{PROCESSORS};
 ghost use Rattle.k42_kinds.specs.Rows as rows;
+ghost use Rattle.k42_shapes.specs.Shapes.{IsKnownTag, shape_at};
 ghost use Rattle.k42_kinds.specs.Steps.{Steps};
 
 use crate::entry::Reach;
@@ -12,12 +13,12 @@ use std::alloc::Global;
 /// The row with which an object begins.
 #[tactic(auto, using(crate::proofs::RowSteps::made_from_push))]
 pub fn empty_row<L: Layout>(layout: &L, alloc: Global, procs: u32) -> Result<Vec<L::Part>, Memory>
-    requires known { (L.tag_of layout.now ≤ 2) × (0 < procs) × (procs ≤ PROCESSORS) }
+    requires known { IsKnownTag (L.shapes layout.now) (L.tag_of layout.now) × (0 < procs) × (procs ≤ PROCESSORS) }
     ensures row { IfOk result (λ parts. L.whole layout.now procs parts.items) }
     ensures empty { IfOk result (λ parts.
-        parts.items ≡ rows.empty_row (L.ways layout.now) (L.tag_of layout.now) procs) }
+        parts.items ≡ rows.empty_row (L.ways layout.now) (shape_at (L.shapes layout.now) (L.tag_of layout.now)) procs) }
 {
-    let cells = if layout.tag() == 1 { procs } else { 1 };
+    let cells = layout.shape().cells(procs);
     let mut parts = Vec::new(alloc);
     for cell in 0..cells {
         parts.push(layout.empty_part(alloc, cell, procs)?)?;
@@ -35,7 +36,7 @@ pub fn step_row<L: Layout>(
     proc: u32,
     procs: u32,
 ) -> Result<L::Reply, Memory>
-    requires known { (L.tag_of layout.now ≤ 2) × (proc < procs) × (procs ≤ PROCESSORS) }
+    requires known { IsKnownTag (L.shapes layout.now) (L.tag_of layout.now) × (proc < procs) × (procs ≤ PROCESSORS) }
     requires takes { IsTrue ((L.object layout.now).takes op.now) }
     requires row { L.whole layout.now procs parts.old.items }
     ensures row { L.whole layout.now procs parts.new.items }

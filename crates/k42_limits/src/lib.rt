@@ -14,6 +14,10 @@ pub const CALLERS: usize = 16;
 /// through. The next one is answered `spent`.
 pub const LAST_INCARNATION: u32 = 1_048_575;
 
+/// An object has 1 to this many live layouts. The dead one comes after them, and all their numbers
+/// fit into four bits.
+pub const LIVE_LAYOUTS: usize = 15;
+
 /// A pass draws at most this many entries.
 pub const PASS_ENTRIES: u64 = 288_230_376_151_711_744;
 

@@ -45,8 +45,8 @@ pub later_stamp : {P O R : Type 0} (v : PassView P O R) (cells : List ℕ) (stam
 later_stamp v cells stamp is later = subst (λ n. last_stamp v.taker.mine < n) is later
 
 -- a word of an object that is over answers that
-pub over_told : {R : Type 0} (word : ℕ) (answer : Answer R) → is_over_in word ≡ true → answer_in word ≡ Some answer → tells_over answer ≡ true
-over_told word answer over told = go (eqb (layout_in word) 2) (eqb (incarnation_in word) LAST_INCARNATION) over told where
+pub over_told : {R : Type 0} (live word : ℕ) (answer : Answer R) → is_over_in live word ≡ true → answer_in live word ≡ Some answer → tells_over answer ≡ true
+over_told live word answer over told = go (eqb (layout_in word) live) (eqb (incarnation_in word) LAST_INCARNATION) over told where
   go : (a b : Bool) → a || b ≡ true
       → cond a (Some Gone) (cond b (Some Spent) (cond (has_bit word 24) (Some (Busy (cond (has_bit word 27) (incarnation_in word) (incarnation_in word + 1)))) None)) ≡ Some answer
       → tells_over answer ≡ true

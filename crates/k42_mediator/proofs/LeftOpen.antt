@@ -3,6 +3,7 @@ use Rattle.std.proofs.Common.{◌≡◌, ⊎_elim, ℕ, false, List, [], ◌∷�
 use mathlib.Core.Option.{some}
 use lib.ListN.{get_elem?}
 use Rattle.atomic_table.specs.Table.{State}
+use Rattle.k42_shapes.specs.declared.shape.Shape.{Shape}
 use Rattle.k42_places.specs.Places.{EachPlace}
 use Rattle.phase_core.specs.Objects.{IsTagged}
 use Rattle.phase_core.specs.Plain.{Object, Phases}
@@ -23,8 +24,8 @@ use Rattle.k42_board.proofs.OnePass.{known}
 use Rattle.k42_board.proofs.Restored.{clear_finds}
 use Rattle.k42_mediator.specs.Swaps.{staged, LeadsToRow, LeavesOpen}
 
-leads_to : (layout p i : ℕ) (e : LocalEntry) → IsTagged layout p e → e.incarnation ≡ i → LeadsToRow i e
-leads_to layout p i e tagged same =
+leads_to : (shapes : List Shape) (layout p i : ℕ) (e : LocalEntry) → IsTagged shapes layout p e → e.incarnation ≡ i → LeadsToRow i e
+leads_to shapes layout p i e tagged same =
     ⊎_elim (λ (is : (e.tag ≡ 0) × (e.layout ≡ 0) × (e.cell ≡ 0)). let tag = is.0 in record { incarnation = same; tag = omega (arith, tag) })
     (λ is. let tag = is.0 in record { incarnation = same; tag = omega (arith, tag) }) tagged
 
@@ -51,7 +52,7 @@ module _ {S L P O R : Type 0} (F : Layouts S L P O R) (declared : List L) (id o 
       let stage = ((visitor_known s r.sound.phases v.number knows.there).swap_alone.owned o (ap named_by own)).1 ∙ own in
       let known' = object_known s r.sound.phases o there in
       let open' = rw stage at (known'.entries_follow p e is) in
-      leads_to k.layout p (incarnation_in (word_begun v.last)) e open'.tagged
+      leads_to k.shapes k.layout p (incarnation_in (word_begun v.last)) e open'.tagged
       (open'.number ∙ sym known'.bits_follow.incarnation ∙ sym (knows.phases.swap.begun o refl unturned))
 
 pub leaves_open : {S L P O R : Type 0} (F : Layouts S L P O R) (declared : List L) (id o : ℕ) (w : PassView P O R) → w.turned ≡ false → LeavesOpen F declared id (staged (Opened o) w)

@@ -1,3 +1,4 @@
+pub mod DeclaredLive
 pub mod Logs
 pub mod LastFound
 pub mod EntriesChanged

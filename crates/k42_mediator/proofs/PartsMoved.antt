@@ -1,6 +1,6 @@
 -- Parts that are moved between cells.
-use Rattle.std.proofs.Common.{◌≡◌, ℕ, zero, suc, ◌+◌, ◌<◌, ◌≤◌, Bool, true, false, cond, eqb, take, arith, List, [], ◌∷◌, ◌++◌, length, refl, ap, inl}
-use Rattle.k42_kinds.specs.Rows.{Ways, cells_of}
+use Rattle.std.proofs.Common.{◌≡◌, ℕ, zero, suc, ◌+◌, ◌≤◌, take, arith, List, [], ◌∷◌, ◌++◌, length, refl, ap, inl}
+use Rattle.k42_kinds.specs.Rows.{Ways}
 use Rattle.k42_board.specs.declared.cell.Content.{Content}
 use Rattle.k42_mediator.specs.Parts.{AreKept}
 
@@ -21,13 +21,6 @@ kept_length ways procs many place [] [] are = refl
 kept_length ways procs many place [] (y ∷ new) are = absurd are
 kept_length ways procs many place (x ∷ own) [] are = absurd are
 kept_length ways procs many place (x ∷ own) (y ∷ new) are = ap suc (kept_length ways procs many (place + 1) own new are.1)
-
--- no more cells of a row have parts than there are
-pub cells_few : (tag procs : ℕ) → 0 < procs → cells_of tag procs ≤ procs
-cells_few tag procs some = go (eqb tag 1) where
-  go : (b : Bool) → cond b procs 1 ≤ procs
-  go true = omega arith
-  go false = omega (arith, some)
 
 pub take_twice : {A : Type 0} (k many : ℕ) (xs : List A) → k ≤ many → take k (take many xs) ≡ take k xs
 take_twice zero many xs le = refl

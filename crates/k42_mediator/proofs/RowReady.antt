@@ -5,12 +5,14 @@ use Rattle.std.specs.Option.{unwrap_or}
 use Rattle.std.proofs.Math.Seq.{take-append_seam, drop-append_seam, drop-length, take-length}
 use Rattle.std.proofs.lemmas.List.{length-map, length-append, take-map, drop-map, take-append-drop, append-nil}
 use Rattle.k42_limits.specs.declared.TheConstants.{PASS_ENTRIES}
-use Rattle.k42_kinds.specs.Rows.{Ways, cells_of, made_from, part_at}
+use Rattle.k42_shapes.specs.Shapes.{cells_of}
+use Rattle.k42_shapes.proofs.ShapeLaws.{few_cells}
+use Rattle.k42_kinds.specs.Rows.{Ways, made_from, part_at}
 use Rattle.k42_kinds.specs.declared.entry.Answer.TheVariants.{Swapped}
 use Rattle.phase_core.specs.declared.caller.SwapAt.TheVariants.{Moved}
 use Rattle.turn_core.specs.Names.{names}
 use Rattle.k42_stamp.specs.Laws.{AreLaws}
-use Rattle.k42_stamp.specs.Layouts.{Layouts}
+use Rattle.k42_stamp.specs.Layouts.{Layouts, IsKnown, IsLive, shape_of}
 use Rattle.k42_kinds.specs.LayoutLaws.{Agree}
 use Rattle.k42_joined.specs.Numbers.{cell_of, row_cells}
 use Rattle.k42_joined.proofs.CellNumbers.{named_in_row}
@@ -20,7 +22,7 @@ use Rattle.k42_board.specs.Parts.{IsPart}
 use Rattle.k42_board.specs.Steps.{Always}
 use Rattle.k42_board.specs.Taking.{CELLS, IsRowNoted, AreRowsNoted}
 use Rattle.k42_board.specs.Values.{layout_in, incarnation_in}
-use Rattle.k42_board.specs.Views.{word_begun}
+use Rattle.k42_board.specs.Views.{shapes_at, word_begun}
 use Rattle.k42_board.specs.declared.cell.Content.{Content}
 use Rattle.k42_board.specs.declared.view.Note.{Note}
 use Rattle.k42_board.specs.declared.view.PassView.{PassView}
@@ -32,7 +34,7 @@ use Rattle.k42_rule.proofs.PartsDue.{first_note, parts_whole}
 use Rattle.k42_mediator.specs.Parts.{parts_from, IsKept, AreKept, filled}
 use Rattle.k42_mediator.specs.Taken.{AreTaken, IsAlike, MayPutBack, MayPutAllBack}
 use Rattle.k42_mediator.proofs.GivenBack.{held_due}
-use Rattle.k42_mediator.proofs.PartsMoved.{take_twice, cells_few}
+use Rattle.k42_mediator.proofs.PartsMoved.{take_twice}
 use Rattle.k42_mediator.proofs.Remaining.{names_more}
 use Rattle.k42_mediator.proofs.RowMoved.{length_made, take_made, at_of, in_take, in_drop, WasKept, kept_at, kept_numbers, kept_held, filled_numbers, filled_parts, filled_held, parts_noted}
 
@@ -52,6 +54,7 @@ pub record HasRows
   pub declaration : L
   pub declares : slice_get declared o ≡ Some declaration
   pub same : F.object_of layout ≡ F.object_of declaration
+  pub told : shapes_at v o ≡ F.shapes_of declaration
   pub tagged : F.tag_of layout ≡ layout_in (word_begun v.last)
 
 module _ {S L P O R : Type 0} (F : Layouts S L P O R) (laws : AreLaws F) (declared : List L)
@@ -62,7 +65,7 @@ module _ {S L P O R : Type 0} (F : Layouts S L P O R) (laws : AreLaws F) (declar
   procs = F.procs
 
   abbrev many : ℕ
-  many = cells_of (F.tag_of layout) procs
+  many = cells_of (shape_of F layout) procs
 
   abbrev ways : Ways S P O R
   ways = F.ways_of layout
@@ -70,11 +73,13 @@ module _ {S L P O R : Type 0} (F : Layouts S L P O R) (laws : AreLaws F) (declar
   one_way : AreOneWay F
   one_way l m same tag = (agrees l m same tag).ways
 
-  pub live : F.tag_of layout ≤ 1
-  live = let is = (has.rows.moved o has.moved has.unhanded).1 in let tag = has.tagged in omega (arith, is, tag)
+  pub live : IsLive F layout
+  live =
+      let is = (has.rows.moved o has.moved has.unhanded).1 in let tag = has.tagged in
+      let many = ap length (has.told ∙ sym (laws.alike layout has.declaration has.same)) in omega (arith, is, tag, many)
 
   pub many_few : many ≤ procs
-  many_few = cells_few (F.tag_of layout) procs laws.some
+  many_few = few_cells (shape_of F layout) procs laws.some
 
   pub long : length cells ≡ procs + procs
   long =
@@ -100,7 +105,7 @@ module _ {S L P O R : Type 0} (F : Layouts S L P O R) (laws : AreLaws F) (declar
       ∙ ap (take many) old_numbers ∙ take_made (cell_of o i) 0 procs many many_few
 
   abbrev due : List P
-  due = parts_due ways procs v.notes o i (F.tag_of layout)
+  due = parts_due ways procs v.notes o i (shape_of F layout)
 
   -- the parts that stand in the cells are those that are due
   pub parts_are : parts_from ways procs 0 (take many cells) ≡ due
@@ -202,17 +207,17 @@ module _ {S L P O R : Type 0} (F : Layouts S L P O R) (laws : AreLaws F) (declar
     (agrees : (l m : L) → F.object_of l ≡ F.object_of m → F.tag_of l ≡ F.tag_of m
     → Agree (F.ways_of l) (F.ways_of m) (F.Whole l) (F.Whole m) (F.Serves l) (F.Serves m))
     (v : PassView P O R) (o i : ℕ) (cells : List (Content P O R)) (layout : L) (has : HasRows F declared v o i cells layout)
-    (news : List (Content P O R)) (kept : AreKept (F.ways_of layout) F.procs (cells_of (F.tag_of layout) F.procs) 0 (take F.procs cells) (take F.procs news)) where
+    (news : List (Content P O R)) (kept : AreKept (F.ways_of layout) F.procs (cells_of (shape_of F layout) F.procs) 0 (take F.procs cells) (take F.procs news)) where
   pub from_numbers : numbers_of (take F.procs news) ≡ row_cells F.procs o i
   from_numbers =
-      kept_numbers (F.ways_of layout) F.procs (cells_of (F.tag_of layout) F.procs) 0 (take F.procs cells) (take F.procs news) kept
+      kept_numbers (F.ways_of layout) F.procs (cells_of (shape_of F layout) F.procs) 0 (take F.procs cells) (take F.procs news) kept
       ∙ old_numbers F laws declared agrees v o i cells layout has
 
   was : (k : ℕ) (new : Content P O R) → slice_get (take F.procs news) k ≡ Some new
-      → WasKept (F.ways_of layout) F.procs (cells_of (F.tag_of layout) F.procs) k (take F.procs cells) k new
+      → WasKept (F.ways_of layout) F.procs (cells_of (shape_of F layout) F.procs) k (take F.procs cells) k new
   was k new at =
-      subst (λ p. WasKept (F.ways_of layout) F.procs (cells_of (F.tag_of layout) F.procs) p (take F.procs cells) k new) (none k)
-      (kept_at (F.ways_of layout) F.procs (cells_of (F.tag_of layout) F.procs) 0 (take F.procs cells) (take F.procs news) k new kept at)
+      subst (λ p. WasKept (F.ways_of layout) F.procs (cells_of (shape_of F layout) F.procs) p (take F.procs cells) k new) (none k)
+      (kept_at (F.ways_of layout) F.procs (cells_of (shape_of F layout) F.procs) 0 (take F.procs cells) (take F.procs news) k new kept at)
     where
       none : (k : ℕ) → 0 + k ≡ k
       none k = omega arith
@@ -231,9 +236,9 @@ module _ {S L P O R : Type 0} (F : Layouts S L P O R) (laws : AreLaws F) (declar
       (at_split F.procs news k new at)
 
   -- else they may be handed on
-  pub may_hand : (to : L) → F.object_of to ≡ F.object_of has.declaration → F.tag_of to ≤ 2 → length v.taker.mine < PASS_ENTRIES
+  pub may_hand : (to : L) → F.object_of to ≡ F.object_of has.declaration → IsKnown F to → length v.taker.mine < PASS_ENTRIES
       → drop F.procs news
-      ≡ filled ((F.ways_of to).imported F.procs (F.admitted to ((F.ways_of layout).combine (parts_from (F.ways_of layout) F.procs 0 (take (cells_of (F.tag_of layout) F.procs) cells)))))
+      ≡ filled ((F.ways_of to).imported F.procs (F.admitted to ((F.ways_of layout).combine (parts_from (F.ways_of layout) F.procs 0 (take (cells_of (shape_of F layout) F.procs) cells)))))
       (drop F.procs cells)
       → MayHandOn F declared (take F.procs news) (drop F.procs news) to (Swapped (i + 1)) v
   may_hand to kind known few full =
@@ -256,28 +261,28 @@ module _ {S L P O R : Type 0} (F : Layouts S L P O R) (laws : AreLaws F) (declar
             ∙ ap (λ j. row_cells F.procs o (j + 1)) has.row;
         held_from = λ k new at.
             let old = was k new at in
-            kept_held (F.ways_of layout) F.procs (cells_of (F.tag_of layout) F.procs) k old.old new v old.kept (has.taken k old.old (in_take F.procs cells k old.old old.at)).held;
+            kept_held (F.ways_of layout) F.procs (cells_of (shape_of F layout) F.procs) k old.old new v old.kept (has.taken k old.old (in_take F.procs cells k old.old old.at)).held;
         held_onto = subst (AreHeld v.notes) (sym full) (filled_held imported (drop F.procs cells) v (λ k x at. (has.taken (F.procs + k) x (in_drop F.procs cells k x at)).held));
-        kept = λ k new at. subst (λ j. KeepsPart F declared v.notes (parts_due (F.ways_of layout) F.procs v.notes o j (F.tag_of layout)) k new) has.row (keeps k new at);
+        kept = λ k new at. subst (λ j. KeepsPart F declared v.notes (parts_due (F.ways_of layout) F.procs v.notes o j (shape_of F layout)) k new) has.row (keeps k new at);
         imported =
-            subst (λ (j : ℕ). HaveParts ((F.ways_of to).imported F.procs (F.admitted to ((F.ways_of layout).combine (parts_due (F.ways_of layout) F.procs v.notes o j (F.tag_of layout))))) (drop F.procs news)) has.row
+            subst (λ (j : ℕ). HaveParts ((F.ways_of to).imported F.procs (F.admitted to ((F.ways_of layout).combine (parts_due (F.ways_of layout) F.procs v.notes o j (shape_of F layout))))) (drop F.procs news)) has.row
             (subst (λ ps. HaveParts ((F.ways_of to).imported F.procs (F.admitted to ((F.ways_of layout).combine ps))) (drop F.procs news)) (parts_are F laws declared agrees v o i cells layout has)
             (subst (HaveParts imported) (sym full) (filled_parts imported (drop F.procs cells))));
         few = few;
       })
     where
       imported : List P
-      imported = (F.ways_of to).imported F.procs (F.admitted to ((F.ways_of layout).combine (parts_from (F.ways_of layout) F.procs 0 (take (cells_of (F.tag_of layout) F.procs) cells))))
+      imported = (F.ways_of to).imported F.procs (F.admitted to ((F.ways_of layout).combine (parts_from (F.ways_of layout) F.procs 0 (take (cells_of (shape_of F layout) F.procs) cells))))
 
       keeps : (k : ℕ) (new : Content P O R) → slice_get (take F.procs news) k ≡ Some new
-          → KeepsPart F declared v.notes (parts_due (F.ways_of layout) F.procs v.notes o i (F.tag_of layout)) k new
+          → KeepsPart F declared v.notes (parts_due (F.ways_of layout) F.procs v.notes o i (shape_of F layout)) k new
       keeps k new at =
           let old = was k new at in let part = (has.taken k old.old (in_take F.procs cells k old.old old.at)).part in
           let row = place_in_row (take F.procs cells) F.procs o i (old_numbers F laws declared agrees v o i cells layout has) has.few k old.old old.at in
           ⊎_elim (λ (e : new ≡ old.old). inl (ap (λ (z : Content _ O R). z.part) e ∙ part ∙ ap (λ (z : Content _ O R). part_noted v.notes z.number) (sym e)))
-          (λ (e : (k < cells_of (F.tag_of layout) F.procs) × (new ≡ record old.old { part = Some (unwrap_or old.old.part ((F.ways_of layout).empty F.procs k)) })).
+          (λ (e : (k < cells_of (shape_of F layout) F.procs) × (new ≡ record old.old { part = Some (unwrap_or old.old.part ((F.ways_of layout).empty F.procs k)) })).
           inr (ap (λ (z : Content _ O R). z.part) e.1 ∙ ap (λ own. Some (unwrap_or own ((F.ways_of layout).empty F.procs k))) (part ∙ ap (part_noted v.notes) row.0)
-          ∙ sym (part_made (part_due (F.ways_of layout) F.procs v.notes o i) 0 (cells_of (F.tag_of layout) F.procs) k e.0 ∙ ap (λ j. Some (part_due (F.ways_of layout) F.procs v.notes o i j)) (omega arith))))
+          ∙ sym (part_made (part_due (F.ways_of layout) F.procs v.notes o i) 0 (cells_of (shape_of F layout) F.procs) k e.0 ∙ ap (λ j. Some (part_due (F.ways_of layout) F.procs v.notes o i j)) (omega arith))))
           old.kept
 
 -- all numbers are as they were
@@ -290,9 +295,9 @@ numbers_same procs cells news front back =
 pub has_rows : {S L P O R : Type 0} (F : Layouts S L P O R) (declared : List L) (v : PassView P O R) (o i : ℕ) (cells : List (Content P O R)) (layout declaration : L)
     → v.visitor.swap ≡ Moved o → i ≡ incarnation_in (word_begun v.last) → v.handed ≡ None → (many : ℕ) → many ≡ F.procs → many ≤ 8 → o < 16
     → numbers_of cells ≡ row_cells F.procs o i ++ row_cells F.procs o (i + 1) → v.taker.held ≡ numbers_of cells → AreTaken v.notes cells
-    → AreRowsNoted F declared v → slice_get declared o ≡ Some declaration → F.object_of layout ≡ F.object_of declaration
+    → AreRowsNoted F declared v → slice_get declared o ≡ Some declaration → F.object_of layout ≡ F.object_of declaration → shapes_at v o ≡ F.shapes_of declaration
     → (tag : ℕ) → F.tag_of layout ≡ tag → tag ≡ layout_in (word_begun v.last) → HasRows F declared v o i cells layout
-has_rows F declared v o i cells layout declaration moved row unhanded many is few object numbers holds taken rows declares same tag tagged begun = record {
+has_rows F declared v o i cells layout declaration moved row unhanded many is few object numbers holds taken rows declares same told tag tagged begun = record {
   moved = moved;
   row = row;
   unhanded = unhanded;
@@ -305,6 +310,7 @@ has_rows F declared v o i cells layout declaration moved row unhanded many is fe
   declaration = declaration;
   declares = declares;
   same = same;
+  told = told;
   tagged = tagged ∙ begun;
 }
 

@@ -25,10 +25,10 @@ phase_in word =
 abbrev pub swap_in : ℕ → ℕ
 swap_in word = if has_bit word 27 then incarnation_in word else incarnation_in word + 1
 
--- to a Begin
-abbrev pub begun_in : ℕ → Begun
-begun_in word =
-    if layout_in word == 2 then begins.Gone
+-- to a Begin, of an object with so many live layouts
+abbrev pub begun_in : ℕ → ℕ → Begun
+begun_in live word =
+    if layout_in word == live then begins.Gone
     else if incarnation_in word == LAST_INCARNATION then begins.Spent
     else if has_bit word 24 then begins.Busy (swap_in word) (phase_in word)
     else begins.Begun

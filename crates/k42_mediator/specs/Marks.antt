@@ -16,7 +16,7 @@ use Rattle.k42_board.specs.Seen.{SysSeen, PassSeen}
 use Rattle.k42_board.specs.Stepping.{HasStepped}
 use Rattle.k42_board.specs.Tabling.{is_over_in}
 use Rattle.k42_board.specs.Values.{answer_in, incarnation_in}
-use Rattle.k42_board.specs.Views.{object_begun, word_begun}
+use Rattle.k42_board.specs.Views.{object_begun, word_begun, live_at}
 use Rattle.k42_board.specs.declared.view.PassView.{PassView}
 use Rattle.k42_mediator.specs.Entries.{IsNext}
 use Rattle.k42_mediator.specs.declared.answers.Marked.{Marked}
@@ -25,8 +25,8 @@ use Rattle.k42_mediator.specs.declared.answers.Marked.TheVariants as marks
 -- its last Begin found the object over, and it has drawn nothing since; it holds no cell
 pub record MayMark {P O R : Type 0} (act : Act O) (v : PassView P O R) : Type 0 where
   pub act_is : is_call act ≡ false
-  pub found : v.found ≡ answer_in (word_begun v.last)
-  pub over : is_over_in (word_begun v.last) ≡ true
+  pub found : v.found ≡ answer_in (live_at v (object_begun v.last)) (word_begun v.last)
+  pub over : is_over_in (live_at v (object_begun v.last)) (word_begun v.last) ≡ true
   pub free : holds_none v.taker.held ≡ true
   pub few : length v.taker.mine < PASS_ENTRIES
 
@@ -38,7 +38,7 @@ cell_marked v = cell_of (object_begun v.last) (incarnation_in (word_begun v.last
 pub record HasMarked {P O R : Type 0} (act : Act O) (old new : PassSeen P O R) : Type 0 where
   pub drawer : IsDrawer old new
   pub answer : Answer R
-  pub told : answer_in (word_begun old.view.last) ≡ Some answer
+  pub told : answer_in (live_at old.view (object_begun old.view.last)) (word_begun old.view.last) ≡ Some answer
   pub entry : Entry O R
   pub next :
       IsNext old.view (object_begun old.view.last) (incarnation_in (word_begun old.view.last)) (cell_marked old.view) act

@@ -23,7 +23,7 @@ use Rattle.k42_board.specs.Values.{answer_in, incarnation_in}
 use Rattle.k42_board.specs.Log.{Extends, last_found, took, with_log}
 use Rattle.k42_board.specs.Protocol as protocol
 use Rattle.k42_board.specs.Stepping.{Takes}
-use Rattle.k42_board.specs.Views.{word_begun}
+use Rattle.k42_board.specs.Views.{word_begun, live_at}
 use Rattle.k42_board.specs.Words.{object_word}
 use Rattle.k42_board.specs.declared.view.PassView.{PassView}
 use Rattle.k42_board.specs.declared.view.StepName.TheVariants as steps
@@ -38,9 +38,9 @@ staged swap v = record v { visitor = at_stage v.visitor swap }
 -- it has tried to begin a swap of the object, and found this word: it has begun one just where the word answers nothing
 abbrev pub begun_now : {P O R : Type 0} → ℕ → ℕ → PassView P O R → PassView P O R
 begun_now {R} o word v = record v {
-  visitor = if is_some (answer_in {R = R} word) then v.visitor else at_stage v.visitor (Begun o);
+  visitor = if is_some (answer_in {R = R} (live_at v o) word) then v.visitor else at_stage v.visitor (Begun o);
   last = Some (record { object = o; word = word });
-  found = answer_in word;
+  found = answer_in (live_at v o) word;
 }
 
 -- the stage once the entries of all processors were changed

@@ -1,5 +1,6 @@
 //! A swap is given up.
 ghost use Rattle.std.specs.Prelude.{◌≡◌, ◌<◌, ◌≤◌, [], length};
+ghost use Rattle.k42_shapes.specs.Shapes.{IsKnownTag};
 ghost use Rattle.turn_core.specs.Stamps.{last_stamp};
 ghost use Rattle.k42_limits.specs.declared.TheConstants.{PASS_ENTRIES};
 ghost use Rattle.k42_board.specs.Drawing.{IsDrawer, stamp_next};
@@ -19,7 +20,7 @@ pub fn abandon<L: Layout>(sys: &Sys<L>, pass: &mut Pass<L>, to: &L)
     requires moved { HasMoved pass.old.view }
     requires room { HasRoom pass.old }
     requires few { length pass.old.view.taker.mine < PASS_ENTRIES }
-    requires known { L.tag_of to.now ≤ 2 }
+    requires known { IsKnownTag (L.shapes to.now) (L.tag_of to.now) }
     ensures same { IsDrawer pass.old pass.new }
     ensures knows { pass.new.view ≡ with_log pass.new.view.log (abandoned_view (L.act_of to.now) pass.old.view) }
     ensures later { last_stamp pass.old.view.taker.mine < stamp_next pass.old.view [] }

@@ -6,7 +6,7 @@ ghost use Rattle.k42_board.specs.Protocol as protocol;
 ghost use Rattle.k42_board.specs.Seen.{IsPassOf, IsSamePass};
 ghost use Rattle.k42_board.specs.Stepping.{MayStep, layouts_in};
 ghost use Rattle.k42_board.specs.Values.{incarnation_in};
-ghost use Rattle.k42_board.specs.Views.{word_begun};
+ghost use Rattle.k42_board.specs.Views.{live_at, word_begun};
 ghost use Rattle.k42_mediator.specs.Answers.{phase_in, swap_in, begun_in};
 ghost use Rattle.k42_mediator.specs.Swaps.{begun_now, HasTried};
 
@@ -46,14 +46,14 @@ fn number_of(word: u64) -> u32
     }
 }
 
-/// What a begin answers that found this word.
-fn answer_to(word: u64) -> Begun
+/// What a begin answers that found this word of an object with so many live layouts.
+fn answer_to(word: u64, live: u32) -> Begun
     requires { incarnation_in word ≤ LAST_INCARNATION }
-    ensures { result ≡ begun_in word }
+    ensures { result ≡ begun_in live word }
 {
-    if layout_in(word) == 2 {
+    if layout_in(word) == live {
         Begun::Gone
-    } else if is_over(word) {
+    } else if is_over(word, live) {
         Begun::Spent
     } else if is_swapped(word) {
         Begun::Busy {
@@ -70,7 +70,7 @@ pub fn begin<L: Layout>(sys: &Sys<L>, pass: &mut Pass<L>, object: u32) -> Begun
     requires ours { IsPassOf sys.now pass.old }
     requires may { MayStep L.Layout sys.now (protocol.begin object) pass.old }
     ensures same { IsSamePass pass.old pass.new }
-    ensures answer { result ≡ begun_in (word_begun pass.new.view.last) }
+    ensures answer { result ≡ begun_in (live_at pass.old.view object) (word_begun pass.new.view.last) }
     ensures knows { pass.new.view ≡ with_log pass.new.view.log (begun_now object (word_begun pass.new.view.last) pass.old.view) }
     ensures begun { HasTried (layouts_in L.Layout sys.now) sys.now.layouts pass.old.seat object pass.old.view pass.new.view }
 {
@@ -78,5 +78,5 @@ pub fn begin<L: Layout>(sys: &Sys<L>, pass: &mut Pass<L>, object: u32) -> Begun
     if let SwapAt::Refused(_) = pass.swap() {
         clear_step(sys, pass);
     }
-    answer_to(found)
+    answer_to(found, sys.declared(object).live())
 }

@@ -1,10 +1,11 @@
 //! What a pass has begun.
 ghost use Rattle.std.specs.Prelude.{◌≡◌, ◌<◌, ◌≤◌, true, false};
 ghost use Rattle.k42_limits.specs.declared.TheConstants.{LAST_INCARNATION};
+ghost use Rattle.k42_shapes.specs.Shapes.{IsLiveTag};
 ghost use Rattle.phase_core.specs.Stages.{is_moved};
 ghost use Rattle.phase_core.specs.declared.caller.SwapAt.TheVariants.{Moved};
 ghost use Rattle.k42_board.specs.Values.{layout_in, incarnation_in};
-ghost use Rattle.k42_board.specs.Views.{object_begun, word_begun};
+ghost use Rattle.k42_board.specs.Views.{object_begun, shapes_at, word_begun};
 ghost use Rattle.k42_rule.specs.Settled.{IsSettled};
 
 use k42_board::incarnation_in;
@@ -33,7 +34,7 @@ pub(crate) fn moved_row<L: Layout>(pass: &Pass<L>) -> Row
     ensures row { result.incarnation ≡ incarnation_in (word_begun pass.now.view.last) }
     ensures few { result.object < 16 }
     ensures before { result.incarnation < LAST_INCARNATION }
-    ensures live { layout_in (word_begun pass.now.view.last) ≤ 1 }
+    ensures live { IsLiveTag (shapes_at pass.now.view result.object) (layout_in (word_begun pass.now.view.last)) }
     ensures unturned { pass.now.view.turned ≡ false }
     ensures settled { IsSettled pass.now.view }
 {

@@ -1,8 +1,9 @@
 //! A swap that found its object over draws that.
-ghost use Rattle.std.specs.Prelude.{◌≡◌, true, Some};
+ghost use Rattle.std.specs.Prelude.{◌≡◌, ◌<◌, true, Some, length};
 ghost use Rattle.k42_board.specs.Seen.{HasRoom, IsPassOf};
 ghost use Rattle.k42_board.specs.Tabling.{is_over_in};
 ghost use Rattle.k42_board.specs.Values.{answer_in};
+ghost use Rattle.k42_board.specs.Views.{object_begun};
 ghost use Rattle.k42_mediator.specs.Marks.{MayMark, IsMarkAnswer};
 
 use crate::answers::Marked;
@@ -12,12 +13,12 @@ use k42_board::{cell_number, incarnation_in, layout_in};
 use k42_kinds::{Act, Answer, Layout};
 use k42_rule::{Pass, Sys, draw_mark, layouts_are_lawful, lock, take};
 
-/// What the word of an object answers that is over.
-fn answer_over<R>(word: u64) -> Answer<R>
-    requires { is_over_in word ≡ true }
-    ensures { answer_in word ≡ Some result }
+/// What the word of an object answers that has so many live layouts and is over.
+fn answer_over<R>(word: u64, live: u32) -> Answer<R>
+    requires { is_over_in live word ≡ true }
+    ensures { answer_in live word ≡ Some result }
 {
-    if layout_in(word) == 2 {
+    if layout_in(word) == live {
         Answer::Gone
     } else {
         Answer::Spent
@@ -29,12 +30,13 @@ fn answer_over<R>(word: u64) -> Answer<R>
 pub fn mark<L: Layout>(sys: &Sys<L>, pass: &mut Pass<L>, act: Act<L::Op>) -> Marked
     requires ours { IsPassOf sys.now pass.old }
     requires may { MayMark act pass.old.view }
+    requires there { object_begun pass.old.view.last < length sys.now.layouts }
     requires room { HasRoom pass.old }
     ensures { IsMarkAnswer L.Layout sys.now result act pass.old pass.new }
 {
     layouts_are_lawful(sys);
     let begin = last_of::<L>(pass);
-    let answer = answer_over(begin.word);
+    let answer = answer_over(begin.word, sys.declared(begin.object).live());
     let number = cell_number(begin.object, incarnation_in(begin.word), 0);
     let found = lock(sys, pass, number);
     if found != 0 {

@@ -2,7 +2,7 @@
 ghost use Rattle.std.specs.Prelude.{◌≡◌, ◌<◌, ◌≤◌, ◌+◌, ◌*◌, ◌++◌, ℕ, None, length, take, drop, unwrap_or, IfOk, OnOk, OnErr, vec_capacity};
 ghost use Rattle.std.specs.Vec.Iter.{into_iter_items};
 ghost use Rattle.k42_limits.specs.declared.TheConstants.{PROCESSORS};
-ghost use Rattle.k42_kinds.specs.Rows.{cells_of};
+ghost use Rattle.k42_shapes.specs.Shapes.{IsKnownTag, IsLiveTag, shape_at, cells_of};
 ghost use Rattle.k42_mediator.specs.Parts.{parts_from, AreKept, filled};
 
 use k42_kinds::Layout;
@@ -19,7 +19,7 @@ fn lift_part<L: Layout>(
     place: u32,
     cell: &mut Cell<L>,
 ) -> Result<L::Part, Memory>
-    requires known { (L.tag_of layout.now ≤ 2) × (place < procs) × (procs ≤ PROCESSORS) }
+    requires known { IsKnownTag (L.shapes layout.now) (L.tag_of layout.now) × (place < procs) × (procs ≤ PROCESSORS) }
     ensures part { IfOk result (λ part. part ≡ unwrap_or cell.old.part ((L.ways layout.now).empty procs place)) }
     ensures lifted { OnOk result (cell.new ≡ record cell.old { part = None }) }
     ensures memory { OnErr result (cell.new ≡ cell.old) }
@@ -49,7 +49,7 @@ fn export_behind<L: Layout>(
     cells: &mut [Cell<L>],
     parts: &mut Vec<L::Part>,
 ) -> Result<L::State, Memory>
-    requires known { (L.tag_of layout.now ≤ 2) × (0 < procs) × (procs ≤ PROCESSORS) }
+    requires known { IsKnownTag (L.shapes layout.now) (L.tag_of layout.now) × (0 < procs) × (procs ≤ PROCESSORS) }
     requires few { length parts.old.items + length cells.old ≤ procs }
     requires room { length parts.old.items + length cells.old ≤ vec_capacity parts.old }
     requires whole { L.whole layout.now procs (parts.old.items ++ parts_from (L.ways layout.now) procs (length parts.old.items) cells.old) }
@@ -83,10 +83,10 @@ fn fill<L: Layout>(cells: &mut [Cell<L>], parts: &mut IntoIter<L::Part>)
 /// How many cells of a row have parts.
 fn cells_in<L: Layout>(layout: &L, procs: u32) -> usize
     requires { 0 < procs }
-    ensures is { result ≡ cells_of (L.tag_of layout.now) procs }
+    ensures is { result ≡ cells_of (shape_at (L.shapes layout.now) (L.tag_of layout.now)) procs }
     ensures few { result ≤ procs }
 {
-    if layout.tag() == 1 { procs as usize } else { 1 }
+    layout.shape().cells(procs) as usize
 }
 
 /// The state for which a row of cells stands.
@@ -96,12 +96,13 @@ fn export_row<L: Layout>(
     procs: u32,
     row: &mut [Cell<L>],
 ) -> Result<L::State, Memory>
-    requires known { (L.tag_of layout.now ≤ 2) × (0 < procs) × (procs ≤ PROCESSORS) }
+    requires known { IsKnownTag (L.shapes layout.now) (L.tag_of layout.now) × (0 < procs) × (procs ≤ PROCESSORS) }
     requires many { length row.old ≡ procs }
-    requires whole { L.whole layout.now procs (parts_from (L.ways layout.now) procs 0 (take (cells_of (L.tag_of layout.now) procs) row.old)) }
+    requires whole { L.whole layout.now procs (parts_from (L.ways layout.now) procs 0 (take (cells_of (shape_at (L.shapes layout.now) (L.tag_of layout.now)) procs) row.old)) }
     ensures many { length row.new ≡ length row.old }
-    ensures kept { AreKept (L.ways layout.now) procs (cells_of (L.tag_of layout.now) procs) 0 row.old row.new }
-    ensures state { IfOk result (λ state. state ≡ (L.ways layout.now).combine (parts_from (L.ways layout.now) procs 0 (take (cells_of (L.tag_of layout.now) procs) row.old))) }
+    ensures kept { AreKept (L.ways layout.now) procs (cells_of (shape_at (L.shapes layout.now) (L.tag_of layout.now)) procs) 0 row.old row.new }
+    ensures state { IfOk result (λ state. state ≡ (L.ways layout.now).combine (parts_from (L.ways layout.now) procs 0 (take (cells_of (shape_at (L.shapes layout.now)
+        (L.tag_of layout.now)) procs) row.old))) }
 {
     let many = cells_in(layout, procs);
     let mut parts = Vec::with_capacity(alloc, many)?;
@@ -117,15 +118,15 @@ pub(crate) fn move_state<L: Layout>(
     procs: u32,
     cells: &mut [Cell<L>],
 ) -> Result<(), Memory>
-    requires known { (L.tag_of layout.now ≤ 1) × (L.tag_of to.now ≤ 2) × (0 < procs) × (procs ≤ PROCESSORS) }
+    requires known { IsLiveTag (L.shapes layout.now) (L.tag_of layout.now) × IsKnownTag (L.shapes to.now) (L.tag_of to.now) × (0 < procs) × (procs ≤ PROCESSORS) }
     requires kind { L.object layout.now ≡ L.object to.now }
     requires many { length cells.old ≡ procs + procs }
-    requires whole { L.whole layout.now procs (parts_from (L.ways layout.now) procs 0 (take (cells_of (L.tag_of layout.now) procs) cells.old)) }
+    requires whole { L.whole layout.now procs (parts_from (L.ways layout.now) procs 0 (take (cells_of (shape_at (L.shapes layout.now) (L.tag_of layout.now)) procs) cells.old)) }
     ensures many { length cells.new ≡ length cells.old }
-    ensures kept { AreKept (L.ways layout.now) procs (cells_of (L.tag_of layout.now) procs) 0 (take procs cells.old) (take procs cells.new) }
+    ensures kept { AreKept (L.ways layout.now) procs (cells_of (shape_at (L.shapes layout.now) (L.tag_of layout.now)) procs) 0 (take procs cells.old) (take procs cells.new) }
     ensures filled { OnOk result (drop procs cells.new ≡ filled
         ((L.ways to.now).imported procs (L.admitted to.now ((L.ways layout.now).combine
-        (parts_from (L.ways layout.now) procs 0 (take (cells_of (L.tag_of layout.now) procs) cells.old)))))
+        (parts_from (L.ways layout.now) procs 0 (take (cells_of (shape_at (L.shapes layout.now) (L.tag_of layout.now)) procs) cells.old)))))
         (drop procs cells.old)) }
     ensures memory { OnErr result (drop procs cells.new ≡ drop procs cells.old) }
 {

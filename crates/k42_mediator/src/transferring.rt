@@ -1,5 +1,6 @@
 //! The state is handed over to a row of the new layout.
 ghost use Rattle.std.specs.Prelude.{◌≡◌, ◌<◌, ◌≤◌, ◌+◌, ◌++◌, None, length, OnOk, OnErr};
+ghost use Rattle.k42_shapes.specs.Shapes.{IsKnownTag};
 ghost use Rattle.k42_limits.specs.declared.TheConstants.{LAST_INCARNATION, PASS_ENTRIES};
 ghost use Rattle.phase_core.specs.declared.caller.SwapAt.TheVariants.{Moved};
 ghost use Rattle.k42_joined.specs.Numbers.{row_cells};
@@ -40,7 +41,7 @@ fn move_and_draw<L: Layout>(
     requires before { row.incarnation < LAST_INCARNATION }
     requires unhanded { pass.old.view.handed ≡ None }
     requires kind { IsOfKind L.object sys.now.layouts row.object to.now }
-    requires known { L.tag_of to.now ≤ 2 }
+    requires known { IsKnownTag (L.shapes to.now) (L.tag_of to.now) }
     requires room { HasRoom pass.old }
     requires few { length pass.old.view.taker.mine < PASS_ENTRIES }
     requires numbers { numbers_of cells.old.items ≡ row_cells sys.now.procs row.object row.incarnation ++ row_cells sys.now.procs row.object (row.incarnation + 1) }
@@ -72,7 +73,7 @@ pub fn transfer<L: Layout>(
     requires ours { IsPassOf sys.now pass.old }
     requires moved { HasMoved pass.old.view }
     requires kind { IsOfKind L.object sys.now.layouts (object_swapped pass.old.view) to.now }
-    requires known { L.tag_of to.now ≤ 2 }
+    requires known { IsKnownTag (L.shapes to.now) (L.tag_of to.now) }
     requires room { HasRoom pass.old }
     requires few { length pass.old.view.taker.mine < PASS_ENTRIES }
     ensures left { (v : PassView L.Part L.Op L.Reply) → v.visitor ≡ pass.old.view.visitor

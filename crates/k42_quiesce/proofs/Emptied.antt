@@ -119,6 +119,7 @@ module _ {P : Type 0} where
     proc = subst (λ n. n < sys.procs) (sym (ap (λ (v : PassView P O R). v.turn.proc) knows)) is.proc;
     waits = ap (λ (v : PassView P O R). length v.turn.waits) knows ∙ is.waits;
     objects = ap (λ (v : PassView P O R). length v.visitor.noted) knows ∙ is.objects;
+    shapes = ap (λ (v : PassView P O R). v.shapes) knows ∙ is.shapes;
     spans = ap (λ (v : PassView P O R). length v.visitor.freeing) knows ∙ is.spans;
     queue = same.queue ∙ is.queue;
     keep = (λ i. (same.keep i).what) ∙ is.keep;

@@ -190,13 +190,14 @@ module _ {P : Type 0} where
 
   -- the pass is still one of the system
   pub still_of : {L O R : Type 0} (sys : SysSeen L) (old new : PassSeen P O R) → IsPassOf sys old → IsSamePass old new → GoesOn old.view new.view → IsPassOf sys new
-  still_of sys old new is same goes =
+  still_of {O} {R} sys old new is same goes =
       let turn = goes.turn in let procs = goes.procs in let visitor = goes.visitor in
       record {
         table = same.table ∙ is.table;
         proc = subst (λ n. n < sys.procs) (sym (ap (λ (t : Caller). t.proc) turn)) is.proc;
         waits = procs ∙ is.waits;
         objects = ap (λ (y : Visitor). length y.noted) visitor ∙ is.objects;
+        shapes = ap (λ (v : PassView P O R). v.shapes) goes.rest ∙ is.shapes;
         spans = ap (λ (y : Visitor). length y.freeing) visitor ∙ is.spans;
         queue = same.queue ∙ is.queue;
         keep = (λ i. (same.keep i).what) ∙ is.keep;
@@ -229,6 +230,7 @@ module _ {P : Type 0} where
         proc = subst (λ n. n < sys.procs) (sym (ap (λ (v : PassView P O R). v.turn.proc) knows)) is.proc;
         waits = ap (λ (v : PassView P O R). length v.turn.waits) knows ∙ is.waits;
         objects = ap (λ (v : PassView P O R). length v.visitor.noted) knows ∙ is.objects;
+        shapes = ap (λ (v : PassView P O R). v.shapes) knows ∙ is.shapes;
         spans = ap (λ (v : PassView P O R). length v.visitor.freeing) knows ∙ is.spans;
         queue = same.queue ∙ is.queue;
         keep = (λ i. (same.keep i).what) ∙ is.keep;
@@ -245,6 +247,7 @@ module _ {P : Type 0} where
     proc = subst (λ n. n < sys.procs) (sym (ap (λ (v : PassView P O R). v.turn.proc) e)) is.proc;
     waits = ap (λ (v : PassView P O R). length v.turn.waits) e ∙ is.waits;
     objects = ap (λ (v : PassView P O R). length v.visitor.noted) e ∙ made_length (due_note old.view) 0 (length old.view.visitor.noted) ∙ is.objects;
+    shapes = ap (λ (v : PassView P O R). v.shapes) e ∙ is.shapes;
     spans = ap (λ (v : PassView P O R). length v.visitor.freeing) e ∙ is.spans;
     queue = same.queue ∙ is.queue;
     keep = (λ i. (same.keep i).what) ∙ is.keep;

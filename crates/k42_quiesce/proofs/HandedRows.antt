@@ -79,6 +79,7 @@ module _ {P O R : Type 0} (old mid new : PassSeen P O R) (pushed : HasPushed mid
       proc = subst (λ n. n < sys.procs) (sym (ap (λ (v : PassView P O R). v.turn.proc) pushed.knows)) ours.proc;
       waits = ap (λ (v : PassView P O R). length v.turn.waits) pushed.knows ∙ ours.waits;
       objects = ap (λ (v : PassView P O R). length v.visitor.noted) pushed.knows ∙ ours.objects;
+      shapes = ap (λ (v : PassView P O R). v.shapes) pushed.knows ∙ ours.shapes;
       spans = ap (λ (v : PassView P O R). length v.visitor.freeing) pushed.knows ∙ ours.spans;
       queue = pushed.queue ∙ ours.queue;
       keep = (λ i. (pushed.keep i).what) ∙ ours.keep;

@@ -21,6 +21,7 @@ swept_still {L} {P} {O} {R} sys procs o count old new is same sweeps =
       proc = subst (λ n. n < sys.procs) (sym (ap (λ (v : PassView P O R). v.turn.proc) rest)) is.proc;
       waits = ap (λ (v : PassView P O R). length v.turn.waits) rest ∙ is.waits;
       objects = ap (λ (v : PassView P O R). length v.visitor.noted) rest ∙ is.objects;
+      shapes = ap (λ (v : PassView P O R). v.shapes) rest ∙ is.shapes;
       spans = sweeps.spans ∙ is.spans;
       queue = same.queue ∙ is.queue;
       keep = (λ i. (same.keep i).what) ∙ is.keep;

@@ -1,7 +1,10 @@
 -- Each step keeps together what a pass knows of its swap.
-use Rattle.std.proofs.Common.{◌≡◌, ◌≢◌, ℕ, ◌+◌, ◌≤◌, if◌then◌else◌, Bool, true, false, ◌||◌, ◌==◌, Option, Some, None, is_some, nat_lt, sym, refl, ap, ◌∙◌, subst, arith}
+use Rattle.std.proofs.Common.{◌≡◌, ◌≢◌, ℕ, ◌+◌, ◌≤◌, if◌then◌else◌, Bool, true, false, ◌||◌, ◌==◌, Option, Some, None, is_some, nat_lt, sym, refl, ap, ◌∙◌, subst, arith, List, [], length, get_or}
+use Rattle.std.specs.Option.{unwrap_or}
 use Rattle.std.proofs.lemmas.Bool.{eq-eqb}
 use Rattle.std.proofs.lemmas.Option.{same_Some}
+use Rattle.k42_shapes.specs.Shapes.{IsKnownTag}
+use Rattle.k42_shapes.specs.declared.shape.Shape.{Shape}
 use Rattle.k42_limits.specs.declared.TheConstants.{LAST_INCARNATION}
 use Rattle.gen_core.specs.declared.state.GraceAt.{GraceAt}
 use Rattle.gen_core.specs.declared.state.GraceAt.TheVariants.{Quiet}
@@ -15,13 +18,14 @@ use Rattle.k42_board.specs.Values.{layout_in, incarnation_in}
 use Rattle.k42_board.specs.declared.view.LastBegin.{LastBegin}
 
 -- a pass that has begun no swap
-pub fits_new : FitsSwap Idle false None None
-fits_new = record {
+pub fits_new : (shapes : List (List Shape)) → FitsSwap shapes Idle false None None
+fits_new shapes = record {
   after = λ e. absurd (cc);
   opens = λ e. absurd (cc);
   moved = λ e. absurd (cc);
   object = λ o e. absurd (cc);
   living = λ e. absurd (cc);
+  known = omega arith;
 }
 
 -- a stage to which a swap goes without a Begin and without a turn-over, and keeps what it has handed on
@@ -118,6 +122,11 @@ idle_is : (swap : SwapAt) → is_idle swap ≡ true → swap ≡ Idle
 idle_is Idle e = refl
 idle_is swap e = absurd (cc)
 
+-- and of one that has not moved its object, and so has handed on no row
+unhanded_zero : (swap : SwapAt) (handed : Option ℕ) → (is_some handed ≡ true → is_moved swap ≡ true) → is_moved swap ≡ false → unwrap_or handed 0 ≡ 0
+unhanded_zero swap None moved not = refl
+unhanded_zero swap (Some tag) moved not = absurd (let is = moved refl in cc)
+
 -- and of one that has just begun
 
 begun_opens : (o : ℕ) (over : Bool) → opens_next (begun_as o over) ≡ false
@@ -129,100 +138,113 @@ begun_named o true = refl
 begun_named o false = refl
 
 begun_lives :
-    (o word : ℕ) (turned over : Bool) → is_over_in word ≡ over → layout_in word ≤ 2 → incarnation_in word ≤ LAST_INCARNATION
-    → is_in_begun_row (begun_as o over) turned ≡ true → IsOfLiving word
-begun_lives o word turned true is known last e = absurd (cc)
-begun_lives o word turned false is known last e =
-    lives (layout_in word == 2) (incarnation_in word == LAST_INCARNATION) refl refl is where
-      lives : (dead spent : Bool) → (layout_in word == 2) ≡ dead → (incarnation_in word == LAST_INCARNATION) ≡ spent → (dead || spent) ≡ false → IsOfLiving word
+    (own : List Shape) (o word : ℕ) (turned over : Bool) → is_over_in (length own) word ≡ over → IsKnownTag own (layout_in word) → incarnation_in word ≤ LAST_INCARNATION
+    → is_in_begun_row (begun_as o over) turned ≡ true → IsOfLiving own word
+begun_lives own o word turned true is known last e = absurd (cc)
+begun_lives own o word turned false is known last e =
+    lives (layout_in word == length own) (incarnation_in word == LAST_INCARNATION) refl refl is where
+      lives : (dead spent : Bool) → (layout_in word == length own) ≡ dead → (incarnation_in word == LAST_INCARNATION) ≡ spent → (dead || spent) ≡ false → IsOfLiving own word
       lives true spent a b e = absurd (cc)
       lives false true a b e = absurd (cc)
       lives false false a b e = record {
-        layout = let not : layout_in word ≢ 2 = λ two. absurd (let so = eq-eqb (layout_in word) 2 two in cc) in omega (arith, known, not);
+        layout = let not : layout_in word ≢ length own = λ two. absurd (let so = eq-eqb (layout_in word) (length own) two in cc) in omega (arith, known, not);
         last = let not : incarnation_in word ≢ LAST_INCARNATION = λ is. absurd (let so = eq-eqb (incarnation_in word) LAST_INCARNATION is in cc) in omega (arith, last, not);
       }
 
-module _ (swap : SwapAt) (turned : Bool) (handed : Option ℕ) (last : Option LastBegin) (fits : FitsSwap swap turned handed last) where
-  fits_at : (next : SwapAt) → GoesTo swap next → FitsSwap next turned handed last
+module _ (shapes : List (List Shape)) (swap : SwapAt) (turned : Bool) (handed : Option ℕ) (last : Option LastBegin) (fits : FitsSwap shapes swap turned handed last) where
+  fits_at : (next : SwapAt) → GoesTo swap next → FitsSwap shapes next turned handed last
   fits_at next goes = record {
     after = λ e. goes.after (fits.after e);
     opens = λ e. fits.opens (goes.opens e);
     moved = λ e. goes.moved (fits.moved e);
     object = λ o e. fits.object o (goes.object o e);
     living = λ e. fits.living (goes.living turned fits.opens e);
+    known = fits.known;
   }
 
   -- the next entry is changed
-  pub fits_entry : (procs : ℕ) → FitsSwap (after_entry procs swap) turned handed last
+  pub fits_entry : (procs : ℕ) → FitsSwap shapes (after_entry procs swap) turned handed last
   fits_entry procs = fits_at (after_entry procs swap) (goes_entry procs swap)
 
   -- a drained swap blocks
-  pub fits_blocked : is_drained swap ≡ true → FitsSwap (Blocking (object_named swap)) turned handed last
+  pub fits_blocked : is_drained swap ≡ true → FitsSwap shapes (Blocking (object_named swap)) turned handed last
   fits_blocked e = fits_at (Blocking (object_named swap)) (goes_blocked swap e)
 
   -- one that blocks moves its object
-  pub fits_moved : is_blocking swap ≡ true → FitsSwap (Moved (object_named swap)) turned handed last
+  pub fits_moved : is_blocking swap ≡ true → FitsSwap shapes (Moved (object_named swap)) turned handed last
   fits_moved e = fits_at (Moved (object_named swap)) (goes_moved swap e)
 
   -- its pass takes the role, and its pass's grace comes so far
-  pub fits_draining : (next : SwapAt) → next ≡ draining_from swap → FitsSwap next turned handed last
+  pub fits_draining : (next : SwapAt) → next ≡ draining_from swap → FitsSwap shapes next turned handed last
   fits_draining next is = rw is (fits_at (draining_from swap) (goes_draining swap))
 
-  pub fits_drained : (grace : GraceAt) → FitsSwap (drained_at grace swap) turned handed last
+  pub fits_drained : (grace : GraceAt) → FitsSwap shapes (drained_at grace swap) turned handed last
   fits_drained grace = fits_at (drained_at grace swap) (goes_drained grace swap)
 
   -- it hands on with a layout
-  pub fits_handed : (tag : ℕ) → is_moved swap ≡ true → FitsSwap swap turned (Some tag) last
-  fits_handed tag e = record { after = fits.after; opens = fits.opens; moved = λ some. e; object = fits.object; living = fits.living }
+  pub fits_handed : (tag : ℕ) → is_moved swap ≡ true → IsKnownTag (get_or shapes (object_named swap) []) tag → FitsSwap shapes swap turned (Some tag) last
+  fits_handed tag e known = record {
+    after = fits.after;
+    opens = fits.opens;
+    moved = λ some. e;
+    object = fits.object;
+    living = fits.living;
+    known = subst (λ o. IsKnownTag (get_or shapes o []) tag) (sym (fits.object (object_named swap) (moved_names swap e))) known;
+  }
 
   -- and turns its object over
-  pub fits_turned : is_moved swap ≡ true → FitsSwap (Opening (object_named swap) 0) true None last
+  pub fits_turned : is_moved swap ≡ true → FitsSwap shapes (Opening (object_named swap) 0) true None last
   fits_turned e = record {
     after = λ is. refl;
     opens = λ is. refl;
     moved = λ is. absurd (cc);
     object = λ o is. fits.object o (moved_names swap e ∙ is);
     living = λ is. absurd (cc);
+    known = omega arith;
   }
 
   -- or gives it up, where it has not handed it on
-  pub fits_given_up : is_moved swap ≡ true → handed ≡ None → FitsSwap (Reopening (object_named swap) 0) turned handed last
+  pub fits_given_up : is_moved swap ≡ true → handed ≡ None → FitsSwap shapes (Reopening (object_named swap) 0) turned handed last
   fits_given_up e none = record {
     after = λ is. absurd (let not = (moved_before swap turned e).0 in let is_after = fits.after is in cc);
     opens = λ is. absurd (cc);
     moved = λ is. absurd (let no = ap is_some none in cc);
     object = λ o is. fits.object o (moved_names swap e ∙ is);
     living = λ is. fits.living (moved_before swap turned e).1;
+    known = fits.known;
   }
 
   -- it ends
-  pub fits_cleared : is_moved swap ≡ false → FitsSwap Idle false handed last
+  pub fits_cleared : is_moved swap ≡ false → FitsSwap shapes Idle false handed last
   fits_cleared unmoved = record {
     after = λ is. absurd (cc);
     opens = λ is. absurd (cc);
     moved = λ is. absurd (let moved = fits.moved is in cc);
     object = λ o is. absurd (cc);
     living = λ is. absurd (cc);
+    known = fits.known;
   }
 
   -- a pass with no swap finds one under way
-  pub fits_told : (begin : Option LastBegin) → is_idle swap ≡ true → FitsSwap swap turned handed begin
+  pub fits_told : (begin : Option LastBegin) → is_idle swap ≡ true → FitsSwap shapes swap turned handed begin
   fits_told begin e = record {
     after = fits.after;
     opens = fits.opens;
     moved = fits.moved;
     object = λ o is. absurd (let none = ap named_by (idle_is swap e) in cc);
     living = λ is. absurd (let not = ap (λ (x : SwapAt). is_in_begun_row x turned) (idle_is swap e) in cc);
+    known = let zero = unhanded_zero swap handed fits.moved (ap is_moved (idle_is swap e)) in omega (arith, zero);
   }
 
   -- or begins its own
   pub fits_begun :
-      (o word : ℕ) → is_idle swap ≡ true → layout_in word ≤ 2 → incarnation_in word ≤ LAST_INCARNATION
-      → FitsSwap (begun_as o (is_over_in word)) turned handed (Some (record { object = o; word = word }))
+      (o word : ℕ) → is_idle swap ≡ true → IsKnownTag (get_or shapes o []) (layout_in word) → incarnation_in word ≤ LAST_INCARNATION
+      → FitsSwap shapes (begun_as o (is_over_in (length (get_or shapes o [])) word)) turned handed (Some (record { object = o; word = word }))
   fits_begun o word e known last_one = record {
     after = λ is. absurd (let not = ap follows_turn (idle_is swap e) in let is_after = fits.after is in cc);
-    opens = λ is. absurd (let not = begun_opens o (is_over_in word) in cc);
+    opens = λ is. absurd (let not = begun_opens o (is_over_in (length (get_or shapes o [])) word) in cc);
     moved = λ is. absurd (let not = ap is_moved (idle_is swap e) in let moved = fits.moved is in cc);
-    object = λ p is. same_Some o p (sym (begun_named o (is_over_in word)) ∙ is);
-    living = λ is. begun_lives o word turned (is_over_in word) refl known last_one is;
+    object = λ p is. same_Some o p (sym (begun_named o (is_over_in (length (get_or shapes o [])) word)) ∙ is);
+    living = λ is. begun_lives (get_or shapes o []) o word turned (is_over_in (length (get_or shapes o [])) word) refl known last_one is;
+    known = let zero = unhanded_zero swap handed fits.moved (ap is_moved (idle_is swap e)) in omega (arith, zero);
   }

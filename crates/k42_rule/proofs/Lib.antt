@@ -1,3 +1,5 @@
+pub mod ShapesKept
+pub mod DeclaredShapes
 pub mod RoleTaken
 pub mod PartsDue
 pub mod PutBack

@@ -1,5 +1,5 @@
 -- A new table shows the new state.
-use Rattle.std.proofs.Common.{◌≡◌, ◌≢◌, ℕ, zero, suc, ◌+◌, ◌*◌, ◌%◌, ◌^◌, ◌<◌, ◌≤◌, false, List, [], ◌∷◌, Some, None, map, length, replicate, sym, refl, ap, ◌∙◌, subst, arith}
+use Rattle.std.proofs.Common.{◌≡◌, ◌≢◌, ℕ, zero, suc, ◌+◌, ◌*◌, ◌%◌, ◌^◌, ◌<◌, ◌≤◌, false, List, [], ◌∷◌, Some, None, map, length, replicate, sym, refl, ap, ◌∙◌, subst, arith, get_or}
 use Rattle.std.specs.List.{slice_get, slice_index}
 use Rattle.std.specs.Prelude.{option_map}
 use Rattle.std.proofs.lemmas.List.{length-map, length-replicate, get_or-replicate}
@@ -7,13 +7,14 @@ use Rattle.std.proofs.lemmas.Option.{same_Some, slice_get-map, slice_get_within,
 use Rattle.std.proofs.Math.ListN.{get_or-map}
 use mathlib.Core.Option.{some, some-injective, some-ne-none}
 use lib.ListN.{get_elem?}
+use Rattle.k42_shapes.specs.declared.shape.Shape.{Shape}
 use Rattle.atomic_table.specs.Table.{opening}
 use Rattle.atomic_table.proofs.Lists.{at_map}
 use Rattle.k42_places.specs.Places.{EachPlace}
 use Rattle.k42_places.proofs.EachPlaces.{EachPlace-map}
 use Rattle.gen_core.specs.State.{fresh_proc, fresh_caller}
 use Rattle.gen_core.specs.declared.state.GenProc.{GenProc}
-use Rattle.phase_core.specs.State.{new_object, new_visitor, empty_entry}
+use Rattle.phase_core.specs.State.{new_object, new_visitor, empty_entry, fresh_object}
 use Rattle.phase_core.specs.declared.object.LocalEntry.{LocalEntry}
 use Rattle.turn_core.specs.State.{fresh_cell}
 use Rattle.turn_core.specs.State as turns
@@ -22,7 +23,7 @@ use Rattle.k42_stamp.specs.Laws.{AreLaws}
 use Rattle.k42_stamp.specs.Layouts.{Layouts}
 use Rattle.std.proofs.Math.ListN.{get_or-map}
 use Rattle.turn_core.specs.Plain as turns'
-use Rattle.k42_joined.specs.Fresh.{first_lives, fresh, IsPlan}
+use Rattle.k42_joined.specs.Fresh.{first_lives, fresh, IsPlan, plan_of}
 use Rattle.k42_joined.specs.Plain.{Joined}
 use Rattle.k42_joined.specs.State.{nothing_kept, many_procs}
 use Rattle.k42_joined.proofs.Fresh.{fresh_sound}
@@ -65,15 +66,22 @@ fresh_in_words procs home = ap (λ ws. record (fresh_caller procs home) { waits 
 spans_none : {span : ℕ × ℕ} → span ≡ (0, 0) → span.0 < span.1 → ⊥
 spans_none is less = let a = ap (λ (z : ℕ × ℕ). z.0) is in let b = ap (λ (z : ℕ × ℕ). z.1) is in omega (arith, a, b, less)
 
+-- a new pass is told the shapes of each object
+shapes_told : {S L P O R : Type 0} (F : Layouts S L P O R) (declared : List L) (o : ℕ)
+    → get_or (map F.shapes_of declared) o [] ≡ (get_or (map (new_object F.procs) (map (plan_of F) declared)) o fresh_object).shapes
+shapes_told F [] o = refl
+shapes_told F (layout ∷ declared) zero = refl
+shapes_told F (layout ∷ declared) (suc o) = shapes_told F declared o
+
 -- the passes of the first view
-passes_at : {P O R : Type 0} (procs objects first : ℕ) (homes : List ℕ) (i : ℕ) (v : PassView P O R) → slice_get (new_passes procs objects first homes) i ≡ Some v
-    → (home : ℕ) × (slice_get homes i ≡ Some home) × (new_pass procs objects (first + i) home ≡ v)
-passes_at procs objects first [] i v e = absurd (cc)
-passes_at {P} procs objects first (home ∷ homes) zero v e =
-    (home, refl, ap (λ n. new_pass {P = P} procs objects n home) (omega arith) ∙ same_Some (new_pass procs objects first home) v e)
-passes_at {P} procs objects first (home ∷ homes) (suc i) v e =
-    let more = passes_at procs objects (first + 1) homes i v e in
-    (more.0, more.1, ap (λ n. new_pass {P = P} procs objects n more.0) (omega arith) ∙ more.2)
+passes_at : {P O R : Type 0} (procs : ℕ) (shapes : List (List Shape)) (first : ℕ) (homes : List ℕ) (i : ℕ) (v : PassView P O R) → slice_get (new_passes procs shapes first homes) i ≡ Some v
+    → (home : ℕ) × (slice_get homes i ≡ Some home) × (new_pass procs shapes (first + i) home ≡ v)
+passes_at procs shapes first [] i v e = absurd (cc)
+passes_at {P} procs shapes first (home ∷ homes) zero v e =
+    (home, refl, ap (λ n. new_pass {P = P} procs shapes n home) (omega arith) ∙ same_Some (new_pass procs shapes first home) v e)
+passes_at {P} procs shapes first (home ∷ homes) (suc i) v e =
+    let more = passes_at procs shapes (first + 1) homes i v e in
+    (more.0, more.1, ap (λ n. new_pass {P = P} procs shapes n more.0) (omega arith) ∙ more.2)
 
 module _ {S L P O R : Type 0} (F : Layouts S L P O R) (laws : AreLaws F) (declared : List L) (callers : List ℕ) (plan : IsPlan F declared callers)
     (words : List ℕ) (slots : List (Slot P O R)) (first : AreFirstWords F.tag_of declared (length declared) words)
@@ -90,7 +98,7 @@ module _ {S L P O R : Type 0} (F : Layouts S L P O R) (laws : AreLaws F) (declar
   }
 
   few_objects : length declared ≤ 16
-  few_objects = let few = plan.phases.few_objects in let long = length-map declared F.tag_of in omega (arith, few, long)
+  few_objects = let few = plan.phases.few_objects in let long = length-map declared (plan_of F) in omega (arith, few, long)
 
   few_procs : F.procs ≤ 8
   few_procs = plan.phases.turns.limits.few_procs
@@ -124,8 +132,8 @@ module _ {S L P O R : Type 0} (F : Layouts S L P O R) (laws : AreLaws F) (declar
 
   objects : AreObjects words s.phases.objects
   objects =
-      EachPlace-map (IsObjectShown words) (new_object F.procs) (map F.tag_of declared)
-      (EachPlace-map (λ o tag. IsObjectShown words o (new_object F.procs tag)) F.tag_of declared
+      EachPlace-map (IsObjectShown words) (new_object F.procs) (map (plan_of F) declared)
+      (EachPlace-map (λ o start. IsObjectShown words o (new_object F.procs start)) (plan_of F) declared
       (λ o layout e.
       let there = slice_get_within declared o layout e in let few = few_objects in let small : o < 16 = omega (arith, there, few) in
       record {
@@ -163,11 +171,11 @@ module _ {S L P O R : Type 0} (F : Layouts S L P O R) (laws : AreLaws F) (declar
         );
       })
 
-  shows : Shows s beside (opening words slots (first_view F.procs declared callers))
+  shows : Shows s beside (opening words slots (first_view F.shapes_of F.procs declared callers))
   shows = record {
     many_words = first.many;
     many_slots = length-map slots some ∙ many;
-    few_objects = let few = few_objects in rw (length-map (map F.tag_of declared) (new_object F.procs), length-map declared F.tag_of) few;
+    few_objects = let few = few_objects in rw (length-map (map (plan_of F) declared) (new_object F.procs), length-map declared (plan_of F)) few;
     few_entries = λ c x e.
         let none = ap (λ (y : turns'.Caller O R). length y.mine) (replicated (length callers) c turns.fresh_caller x e).1 in omega (arith, none);
     generations = generations;
@@ -175,9 +183,9 @@ module _ {S L P O R : Type 0} (F : Layouts S L P O R) (laws : AreLaws F) (declar
     cells = cells;
   }
 
-  knows_new : (c home : ℕ) → slice_get callers c ≡ Some home → KnowsPass F.tag_of s beside 0 (new_pass F.procs (length declared) c home)
+  knows_new : (c home : ℕ) → slice_get callers c ≡ Some home → KnowsPass F.tag_of s beside 0 (new_pass F.procs (map F.shapes_of declared) c home)
   knows_new c home e = record {
-    there = rw (length-replicate (length callers) (new_visitor (length (map F.tag_of declared)))) there;
+    there = rw (length-replicate (length callers) (new_visitor (length (map (plan_of F) declared)))) there;
     seat = refl;
     names = record { named = λ place row is. absurd (cc); once = λ i j row is. absurd (cc) };
     generations = record {
@@ -188,7 +196,9 @@ module _ {S L P O R : Type 0} (F : Layouts S L P O R) (laws : AreLaws F) (declar
       base = λ b is. absurd (cc);
     };
     phases = record {
-      visitor = get_or-replicate (length callers) c (new_visitor (length (map F.tag_of declared))) _ there ∙ ap new_visitor (length-map declared F.tag_of);
+      visitor = get_or-replicate (length callers) c (new_visitor (length (map (plan_of F) declared))) _ there
+          ∙ ap new_visitor (length-map declared (plan_of F) ∙ sym (length-map declared F.shapes_of));
+      shapes = shapes_told F declared;
       layout = λ l o i is. absurd (cc);
       learned = λ is. absurd (cc);
       swap = record {
@@ -201,7 +211,7 @@ module _ {S L P O R : Type 0} (F : Layouts S L P O R) (laws : AreLaws F) (declar
         old = λ place row is. absurd (cc);
         granted = λ place row is. absurd (cc);
         swept = λ o n is. absurd (cc);
-        spans = λ o less. absurd (let none = same_everywhere {A = ℕ × ℕ} (length declared) o (0, 0) in spans_none none less);
+        spans = λ o less. absurd (let none = same_everywhere {A = ℕ × ℕ} (length (map F.shapes_of declared)) o (0, 0) in spans_none none less);
       };
     };
     cells = record {
@@ -223,20 +233,20 @@ module _ {S L P O R : Type 0} (F : Layouts S L P O R) (laws : AreLaws F) (declar
     there : c < length callers
     there = slice_get_within callers c home e
 
-  seats : (id : ℕ) (view : View P O R) → get_elem? (first_view {L = L} {P = P} F.procs declared callers ∷ []) id ≡ some view → Knows F.tag_of s beside id view
+  seats : (id : ℕ) (view : View P O R) → get_elem? (first_view {L = L} {P = P} F.shapes_of F.procs declared callers ∷ []) id ≡ some view → Knows F.tag_of s beside id view
   seats zero view e =
       subst (Knows F.tag_of s beside 0) (some-injective _ view e) (
         (λ i j v w e f same.
-            let one = (passes_at F.procs (length declared) 0 callers i v e).2 in
-            let other = (passes_at F.procs (length declared) 0 callers j w f).2 in
+            let one = (passes_at F.procs (map F.shapes_of declared) 0 callers i v e).2 in
+            let other = (passes_at F.procs (map F.shapes_of declared) 0 callers j w f).2 in
             let a = ap (λ (z : PassView P O R). z.number) one in let b = ap (λ (z : PassView P O R). z.number) other in omega (arith, a, b, same)),
         λ place v is.
-            let at = passes_at F.procs (length declared) 0 callers place v is in
-            subst (KnowsPass F.tag_of s beside 0) (ap (λ n. new_pass {P = P} F.procs (length declared) n at.0) (omega arith) ∙ at.2) (knows_new place at.0 at.1),
+            let at = passes_at F.procs (map F.shapes_of declared) 0 callers place v is in
+            subst (KnowsPass F.tag_of s beside 0) (ap (λ n. new_pass {P = P} F.procs (map F.shapes_of declared) n at.0) (omega arith) ∙ at.2) (knows_new place at.0 at.1),
       )
   seats (suc id) view e = absurd (some-ne-none view (sym e))
 
-  pub opens : (ruled : Ruled F declared (length callers) (opening words slots (first_view F.procs declared callers))) × (ruled.rule.state ≡ s)
+  pub opens : (ruled : Ruled F declared (length callers) (opening words slots (first_view F.shapes_of F.procs declared callers))) × (ruled.rule.state ≡ s)
   opens = (
     record {
       rule = record {
@@ -247,7 +257,7 @@ module _ {S L P O R : Type 0} (F : Layouts S L P O R) (laws : AreLaws F) (declar
         parts = λ n lt. first_part F laws declared callers n;
         seats = seats;
       };
-      many = length-replicate (length callers) (new_visitor (length (map F.tag_of declared)));
+      many = length-replicate (length callers) (new_visitor (length (map (plan_of F) declared)));
     },
     refl,
   )

@@ -1,16 +1,20 @@
 -- The parts that are due by what a pass has noted are those of the row.
-use Rattle.std.proofs.Common.{◌≡◌, ℕ, zero, suc, ◌+◌, ◌<◌, ◌≤◌, Bool, true, false, ◌||◌, cond, eqb, List, [], ◌∷◌, Option, Some, None, length, refl, sym, ap, ◌∙◌, subst, arith}
+use Rattle.std.proofs.Common.{◌≡◌, ℕ, zero, suc, ◌+◌, ◌<◌, Bool, true, false, ◌||◌, cond, eqb, List, [], ◌∷◌, Option, Some, None, length, refl, sym, ap, ◌∙◌, subst, arith}
 use Rattle.std.specs.List.{slice_get}
 use Rattle.std.specs.Option.{unwrap_or}
 use Rattle.std.proofs.lemmas.Bool.{eqb-true}
 use Rattle.std.proofs.lemmas.Option.{same_Some}
 use Rattle.std.specs.Prelude.{IsTrue}
+use Rattle.k42_stamp.proofs.PartsAfter.{same_shape}
+use Rattle.k42_shapes.proofs.ShapeLaws.{few_cells}
+use Rattle.k42_shapes.specs.declared.shape.Shape.{Shape}
 use Rattle.k42_kinds.specs.declared.entry.Reach.TheVariants.{One}
 use Rattle.k42_kinds.specs.LayoutLaws.{Agree, IsReached}
-use Rattle.k42_kinds.specs.Rows.{Ways, cells_of, made_from, part_at, IsWithin}
+use Rattle.k42_kinds.specs.Rows.{Ways, made_from, part_at, IsWithin}
+use Rattle.k42_shapes.specs.Shapes.{cells_of, IsKnownTag}
 use Rattle.turn_core.specs.Names.{names}
 use Rattle.k42_stamp.specs.Laws.{AreLaws}
-use Rattle.k42_stamp.specs.Layouts.{Layouts}
+use Rattle.k42_stamp.specs.Layouts.{Layouts, IsKnown, shape_of}
 use Rattle.k42_joined.specs.Numbers.{cell_of}
 use Rattle.k42_board.specs.Cells.{cells_noted}
 use Rattle.k42_board.specs.Drawing.{part_noted, history_noted, closed_noted, part_due, parts_due}
@@ -84,11 +88,11 @@ made_of make first (suc many) (part ∷ row) long each =
     λ k. sym head k ∷ rest k
 
 module _ {S L P O R : Type 0} (F : Layouts S L P O R) (laws : AreLaws F) (declared : List L) (notes : List (Note P O R)) (o i tag : ℕ) (is : IsRowNoted F declared notes o i tag) where
-  pub many_parts : length is.row ≡ cells_of tag F.procs
-  many_parts = (laws.stands is.layout is.row is.known is.whole).sized ∙ ap (λ t. cells_of t F.procs) is.tagged
+  pub many_parts : length is.row ≡ cells_of (shape_of F is.layout) F.procs
+  many_parts = (laws.stands is.layout is.row is.known is.whole).sized
 
   -- the part that is due of a noted cell is that of the row
-  pub row_part : (p : ℕ) → p < F.procs → p < cells_of tag F.procs → names (cells_noted notes) (cell_of o i p) ≡ true
+  pub row_part : (p : ℕ) → p < F.procs → p < cells_of (shape_of F is.layout) F.procs → names (cells_noted notes) (cell_of o i p) ≡ true
       → part_at is.row p ≡ Some (part_due (F.ways_of is.layout) F.procs notes o i p)
   row_part p lt within noted =
       let first = first_note notes (cell_of o i p) noted in
@@ -96,10 +100,10 @@ module _ {S L P O R : Type 0} (F : Layouts S L P O R) (laws : AreLaws F) (declar
       (subst (λ part. HasDue (F.ways_of is.layout) F.procs p part (part_at is.row p)) (sym first.part) (is.parts first.place p first.note lt first.there first.named))
 
   -- those that are due of a row whose cells are all noted are the row
-  pub row_parts : ((p : ℕ) → p < cells_of tag F.procs → p < F.procs) → ((p : ℕ) → p < cells_of tag F.procs → names (cells_noted notes) (cell_of o i p) ≡ true)
-      → parts_due (F.ways_of is.layout) F.procs notes o i tag ≡ is.row
+  pub row_parts : ((p : ℕ) → p < cells_of (shape_of F is.layout) F.procs → p < F.procs) → ((p : ℕ) → p < cells_of (shape_of F is.layout) F.procs → names (cells_noted notes) (cell_of o i p) ≡ true)
+      → parts_due (F.ways_of is.layout) F.procs notes o i (shape_of F is.layout) ≡ is.row
   row_parts inside noted =
-      made_of (part_due (F.ways_of is.layout) F.procs notes o i) 0 (cells_of tag F.procs) is.row many_parts
+      made_of (part_due (F.ways_of is.layout) F.procs notes o i) 0 (cells_of (shape_of F is.layout) F.procs) is.row many_parts
       (λ p lt. row_part p (inside p lt) lt (noted p lt) ∙ ap (λ k. Some (part_due (F.ways_of is.layout) F.procs notes o i k)) (omega arith))
 
 -- what a call needs to know of parts: its layout keeps the object as that of the row does
@@ -108,29 +112,40 @@ module _ {S L P O R : Type 0} (F : Layouts S L P O R) (laws : AreLaws F) (declar
     (is : IsRowNoted F declared notes o i (F.tag_of layout))
     (agrees : (l m : L) → F.object_of l ≡ F.object_of m → F.tag_of l ≡ F.tag_of m
     → Agree (F.ways_of l) (F.ways_of m) (F.Whole l) (F.Whole m) (F.Serves l) (F.Serves m)) where
+  kinds : F.object_of is.layout ≡ F.object_of layout
+  kinds = is.same ∙ ap F.object_of (same_Some is.declaration declaration (sym is.declares ∙ declares)) ∙ sym kind
+
+  one_shape : shape_of F is.layout ≡ shape_of F layout
+  one_shape = same_shape F laws is.layout layout kinds is.tagged
+
   pub agree : Agree (F.ways_of is.layout) (F.ways_of layout) (F.Whole is.layout) (F.Whole layout) (F.Serves is.layout) (F.Serves layout)
   agree =
-      agrees is.layout layout (is.same ∙ ap F.object_of (same_Some is.declaration declaration (sym is.declares ∙ declares)) ∙ sym kind) is.tagged
+      agrees is.layout layout kinds is.tagged
 
-  few_cells : (p : ℕ) → p < cells_of (F.tag_of layout) F.procs → p < F.procs
-  few_cells p = go (eqb (F.tag_of layout) 1) where
-    go : (b : Bool) → p < cond b F.procs 1 → p < F.procs
-    go true lt = lt
-    go false lt = let some = laws.some in omega (arith, lt, some)
+  in_few_cells : (p : ℕ) → p < cells_of (shape_of F layout) F.procs → p < F.procs
+  in_few_cells p lt = let few = few_cells (shape_of F layout) F.procs laws.some in omega (arith, few, lt)
+
+  -- a place in the row of the one is in that of the other
+  in_row : (p : ℕ) → p < cells_of (shape_of F layout) F.procs → p < cells_of (shape_of F is.layout) F.procs
+  in_row p lt = subst (λ (shape : Shape). p < cells_of shape F.procs) (sym one_shape) lt
+
+  from_row : (p : ℕ) → p < cells_of (shape_of F is.layout) F.procs → p < cells_of (shape_of F layout) F.procs
+  from_row p lt = subst (λ (shape : Shape). p < cells_of shape F.procs) one_shape lt
 
   -- the part that is due is that of a whole row at its place
-  pub part_of_row : (p : ℕ) → p < cells_of (F.tag_of layout) F.procs → names (cells_noted notes) (cell_of o i p) ≡ true
+  pub part_of_row : (p : ℕ) → p < cells_of (shape_of F layout) F.procs → names (cells_noted notes) (cell_of o i p) ≡ true
       → part_at is.row p ≡ Some (part_due (F.ways_of layout) F.procs notes o i p)
   part_of_row p lt noted =
       subst (λ (ways : Ways S P O R). part_at is.row p ≡ Some (part_due ways F.procs notes o i p)) agree.ways
-      (row_part F laws declared notes o i (F.tag_of layout) is p (few_cells p lt) lt noted)
+      (row_part F laws declared notes o i (F.tag_of layout) is p (in_few_cells p lt) (in_row p lt) noted)
 
   pub part_reached : (op : O) (proc p : ℕ) → proc < F.procs → IsTrue ((F.object_of layout).takes op) → (F.ways_of layout).reach F.procs op proc ≡ One p
       → names (cells_noted notes) (cell_of o i p) ≡ true → IsReached (F.ways_of layout) (F.Whole layout) (part_due (F.ways_of layout) F.procs notes o i p) op
   part_reached op proc p there takes reach noted =
-      let known : F.tag_of layout ≤ 2 = subst (λ t. t ≤ 2) is.tagged is.known in
-      let lt : p < cells_of (F.tag_of layout) F.procs =
-      subst (λ r. IsWithin (cells_of (F.tag_of layout) F.procs) r) reach (laws.reaches layout proc op known there takes) in
+      let known : IsKnown F layout =
+      subst (λ (z : List Shape × ℕ). IsKnownTag z.0 z.1) (λ j. (laws.alike is.layout layout kinds j, is.tagged j)) is.known in
+      let lt : p < cells_of (shape_of F layout) F.procs =
+      subst (λ r. IsWithin (cells_of (shape_of F layout) F.procs) r) reach (laws.reaches layout proc op known there takes) in
       record {
         procs = F.procs;
         proc = proc;
@@ -143,10 +158,10 @@ module _ {S L P O R : Type 0} (F : Layouts S L P O R) (laws : AreLaws F) (declar
       }
 
   -- the parts that are due of a row whose cells are all noted are a whole row
-  pub parts_whole : ((p : ℕ) → p < cells_of (F.tag_of layout) F.procs → names (cells_noted notes) (cell_of o i p) ≡ true)
-      → F.Whole layout F.procs (parts_due (F.ways_of layout) F.procs notes o i (F.tag_of layout))
+  pub parts_whole : ((p : ℕ) → p < cells_of (shape_of F layout) F.procs → names (cells_noted notes) (cell_of o i p) ≡ true)
+      → F.Whole layout F.procs (parts_due (F.ways_of layout) F.procs notes o i (shape_of F layout))
   parts_whole noted =
       subst (F.Whole layout F.procs)
-      (sym (row_parts F laws declared notes o i (F.tag_of layout) is few_cells noted)
-      ∙ ap (λ (ways : Ways S P O R). parts_due ways F.procs notes o i (F.tag_of layout)) agree.ways)
+      (sym (row_parts F laws declared notes o i (F.tag_of layout) is (λ p lt. in_few_cells p (from_row p lt)) (λ p lt. noted p (from_row p lt)))
+      ∙ (λ j. parts_due (agree.ways j) F.procs notes o i (one_shape j)))
       (agree.whole F.procs is.row is.whole)

@@ -48,6 +48,12 @@ pub role_keeps : {P O R : Type 0} (v : PassView P O R) (me : Seated P O R) (foun
 role_keeps {O} {R} v me found seat zero =
     ap (λ (m : Seated _ O R). (pass_in m.0).taker.mine) (subst (λ n. IsSeatOf me (took steps.TakeRole role_word n (role_view n v))) zero seat)
 
+-- nor does it tell other shapes
+pub role_shapes : {P O R : Type 0} (v : PassView P O R) (me : Seated P O R) (found : ℕ) → IsSeatOf me (took steps.TakeRole role_word found (role_view found v)) → found ≡ 0
+    → (pass_in me.0).shapes ≡ v.shapes
+role_shapes {O} {R} v me found seat zero =
+    ap (λ (m : Seated _ O R). (pass_in m.0).shapes) (subst (λ n. IsSeatOf me (took steps.TakeRole role_word n (role_view n v))) zero seat)
+
 module _ {P O R : Type 0} (v : PassView P O R) (own : Own) (own_is : own ≡ own_in v) where
   pub noted_anew :
       (rows : List Row) (old was new : List (Option ℕ)) (many : ℕ) → rows ≡ own.rows → old ≡ own.noted → was ≡ own.noted → many ≡ length own.noted

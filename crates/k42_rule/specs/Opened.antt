@@ -16,5 +16,5 @@ pub record IsOpened {S L P O R : Type 0} (F : Layouts S L P O R) (declared : Lis
   pub told : AreFirstWords F.tag_of declared (length declared) words
   pub many : length slots ≡ many_slots
   pub filled : AreFirstSlots slots
-  pub ruled : Ruled F declared (length callers) (opening words slots (first_view F.procs declared callers))
+  pub ruled : Ruled F declared (length callers) (opening words slots (first_view F.shapes_of F.procs declared callers))
   pub new : ruled.rule.state ≡ fresh F declared callers

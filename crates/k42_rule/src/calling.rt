@@ -1,5 +1,6 @@
 //! A call at the one cell that it needs, which stays in its slot meanwhile.
-ghost use Rattle.std.specs.Prelude.{◌≡◌, ◌≤◌, ◌<◌, IsTrue, length, IfOk, OnErr, OnOk};
+ghost use Rattle.std.specs.Prelude.{◌≡◌, ◌<◌, IsTrue, length, IfOk, OnErr, OnOk};
+ghost use Rattle.k42_shapes.specs.Shapes.{IsKnownTag};
 ghost use Rattle.turn_core.specs.Stamps.{last_stamp};
 ghost use Rattle.k42_limits.specs.declared.TheConstants.{PASS_ENTRIES};
 ghost use Rattle.k42_board.specs.Calling.{HasCalledAt, HasLeftCell, MayCallAt};
@@ -34,7 +35,7 @@ pub fn call_one<L: Layout>(
     requires may { HoldsHome cell pass.old.view }
     requires room { HasRoom pass.old }
     requires few { length pass.old.view.taker.mine < PASS_ENTRIES }
-    requires known { (L.tag_of layout.now ≤ 2) × (place < sys.now.procs) }
+    requires known { IsKnownTag (L.shapes layout.now) (L.tag_of layout.now) × (place < sys.now.procs) }
     requires takes { IsTrue ((L.object layout.now).takes op.now) }
     requires call { MayCallAt (layouts_in L.Layout sys.now) sys.now.layouts layout.now place cell op.now pass.old.seat pass.old.view }
     ensures called { IfOk result (λ stamp. HasCalledAt (layouts_in L.Layout sys.now) sys.now.layouts layout.now place cell op.now pass.old.seat reply.new stamp pass.old.view pass.new.view) }

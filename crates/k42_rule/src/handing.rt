@@ -52,6 +52,7 @@ fn hand_at<L: Layout>(
     answer: Answer<L::Reply>,
 ) -> u64
     requires ours { IsOf sys.now pass.old }
+    requires shapes { pass.old.view.shapes ≡ sys.now.shapes }
     requires room { HasRoom pass.old }
     requires may { MayHandAt (layouts_in L.Layout sys.now) sys.now.layouts cells.old to.now answer pass.old.view }
     ensures stamp { result ≡ stamp_next pass.old.view (numbers_of cells.old) }
@@ -82,6 +83,7 @@ pub fn draw_done<L: Layout>(
     answer: Answer<L::Reply>,
 ) -> u64
     requires ours { IsOf sys.now pass.old }
+    requires shapes { pass.old.view.shapes ≡ sys.now.shapes }
     requires room { HasRoom pass.old }
     requires may { MayHandAt (layouts_in L.Layout sys.now) sys.now.layouts cells.old.items to.now answer pass.old.view }
     ensures stamp { result ≡ stamp_next pass.old.view (numbers_of cells.old.items) }

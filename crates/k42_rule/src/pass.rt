@@ -1,5 +1,6 @@
 //! A pass: what one caller steps with.
 ghost use Rattle.std.specs.Prelude.{◌≡◌, ◌<◌, ◌≤◌, ◌-◌, true, Some, drop, length, slice_index, is_some, IsOk, OnOk};
+ghost use Rattle.k42_shapes.specs.Shapes.{IsKnownTag};
 ghost use Rattle.k42_board.specs.declared.keep.Keep.TheVariants as keeps;
 ghost use Rattle.k42_limits.specs.declared.TheConstants.{LAST_INCARNATION, LAST_STAMP, PASS_ENTRIES};
 ghost use Rattle.k42_places.specs.Places.{EachPlace};
@@ -13,7 +14,7 @@ ghost use Rattle.k42_board.specs.Phases.{is_served};
 ghost use Rattle.k42_board.specs.Seen.{HasRoom, IsParted, IsRoomier, inside_in, is_at_rest, kept_by};
 ghost use Rattle.k42_board.specs.Swapping.{FitsSwap};
 ghost use Rattle.k42_board.specs.Values.{layout_in, incarnation_in};
-ghost use Rattle.k42_board.specs.Views.{object_begun, word_begun};
+ghost use Rattle.k42_board.specs.Views.{object_begun, shapes_at, word_begun};
 
 use atomic_table::Seat;
 use crossbeam_queue::SegPass;
@@ -74,7 +75,8 @@ impl<P: Drop, O: Packed, R: PackedReply> Model for Walker<P, O, R> {
     ghost use Rattle.k42_board.specs.Seen.{PassSeen, Mirrors};
     ghost use Rattle.k42_board.specs.Swapping.{next_entry, FitsSwap};
     ghost use Rattle.k42_board.specs.Values.{layout_in, incarnation_in};
-    ghost use Rattle.k42_board.specs.Views.{object_begun, pass_in, word_begun};
+    ghost use Rattle.k42_board.specs.Views.{object_begun, pass_in, shapes_at, word_begun};
+    ghost use Rattle.k42_shapes.specs.Shapes.{IsKnownTag};
     ghost use Rattle.k42_rule.specs.Keeping.{HasKept};
 
     ghost Value = { PassSeen P O R };
@@ -108,17 +110,17 @@ impl<P: Drop, O: Packed, R: PackedReply> Model for Walker<P, O, R> {
       handed = p.handed;
       rows = p.rows.items;
       granted = p.granted;
-    }) × (p.home < 8) × (object_of p.place < 16) × (unwrap_or p.layout 0 ≤ 2)
+    }) × (p.home < 8) × (object_of p.place < 16) × (unwrap_or p.layout 0 < 16)
         × (object_named p.swap < 16) × (unwrap_or (next_entry p.swap) 0 < 8) × (length p.waits.items ≤ 8)
-        × (incarnation_in (word_begun p.last) ≤ LAST_INCARNATION) × (layout_in (word_begun p.last) ≤ 2)
+        × (incarnation_in (word_begun p.last) ≤ LAST_INCARNATION) × IsKnownTag (shapes_at (pass_in p.seat.me.0) (object_of p.place)) (unwrap_or p.layout 0)
         × (row_of p.place ≤ LAST_INCARNATION)
         × (p.granted ≤ length p.rows.items)
         × FitsGrace p.grace p.base (length p.waits.items) × (unwrap_or p.base 0 + 1 < 2 ^ 32)
         × HasKept (record { what = p.keep; given = p.given; since = p.since }) p.number p.home (pass_in p.seat.me.0).taker.mine p.clock p.kept
         × (p.clock ≤ LAST_STAMP)
-        × FitsSwap p.swap p.turned p.handed p.last
+        × FitsSwap (pass_in p.seat.me.0).shapes p.swap p.turned p.handed p.last
         × (p.post.me.hand ≡ None) × (p.post.me.spare ≡ None) × IsTied p.seat.table_id p.post.me.view.client
-        × (unwrap_or p.handed 0 ≤ 2) × (object_begun p.last < 16) };
+        × (unwrap_or p.handed 0 < 16) × (object_begun p.last < 16) };
 }
 
 impl<P: Drop, O: Packed, R: PackedReply> Walker<P, O, R> {
@@ -296,7 +298,7 @@ impl<P: Drop, O: Packed, R: PackedReply> Walker<P, O, R> {
         ensures is { result ≡ self.now.view.visitor.swap }
         ensures object { object_named self.now.view.visitor.swap < 16 }
         ensures settled { IsSettled self.now.view }
-        ensures linked { FitsSwap self.now.view.visitor.swap self.now.view.turned self.now.view.handed self.now.view.last }
+        ensures linked { FitsSwap self.now.view.shapes self.now.view.visitor.swap self.now.view.turned self.now.view.handed self.now.view.last }
     {
         self.swap
     }
@@ -319,7 +321,8 @@ impl<P: Drop, O: Packed, R: PackedReply> Walker<P, O, R> {
     pub fn inside(&self) -> Inside
         requires { is_served self.now.view.visitor.place ≡ true }
         ensures is { result ≡ inside_in self.now.view }
-        ensures bounds { (result.object < 16) × (result.incarnation ≤ LAST_INCARNATION) × (result.layout ≤ 2) }
+        ensures bounds { (result.object < 16) × (result.incarnation ≤ LAST_INCARNATION) × (result.layout < 16) }
+        ensures known { IsKnownTag (shapes_at self.now.view result.object) result.layout }
     {
         let layout = self.layout.unwrap_or(0);
         match self.place {
@@ -343,7 +346,7 @@ impl<P: Drop, O: Packed, R: PackedReply> Walker<P, O, R> {
     pub fn handed_layout(&self) -> u32
         requires { is_some self.now.view.handed ≡ true }
         ensures is { self.now.view.handed ≡ Some result }
-        ensures bound { result ≤ 2 }
+        ensures known { IsKnownTag (shapes_at self.now.view (object_named self.now.view.visitor.swap)) result }
     {
         let Some(tag) = self.handed else {
             unreachable!()
@@ -355,7 +358,7 @@ impl<P: Drop, O: Packed, R: PackedReply> Walker<P, O, R> {
     pub fn begun_layout(&self) -> u32
         requires { is_some (named_by self.now.view.visitor.swap) ≡ true }
         ensures is { result ≡ layout_in (word_begun self.now.view.last) }
-        ensures bound { result ≤ 2 }
+        ensures bound { result < 16 }
     {
         layout_in(self.last.map_or(0, |begin| begin.word))
     }

@@ -1,5 +1,5 @@
 //! How a system starts.
-ghost use Rattle.std.specs.Prelude.{◌≡◌, ◌<◌, ◌≤◌, ℕ, List, [], ◌∷◌, length, IfOk};
+ghost use Rattle.std.specs.Prelude.{◌≡◌, ◌<◌, ◌≤◌, ℕ, List, [], ◌∷◌, length, map, IfOk};
 ghost use Rattle.k42_places.specs.Places.{EachPlace};
 ghost use Rattle.crossbeam_queue.specs.SegTies.{IsSegPassOf};
 ghost use Rattle.k42_board.specs.Dealing.{dealer};
@@ -32,12 +32,12 @@ fn deal<L: Layout>(
     home: u32,
 ) -> Result<Pass<L>, Memory>
     requires ours { (seat.old.table_id ≡ board.now.shared.table_id) × (board.now.shared.table_id.words ≡ many_words) }
-    requires few { (procs ≤ 8) × (home < 8) }
+    requires few { (procs ≤ 8) × (home < 8) × (objects ≡ length board.now.shared.key.layouts.items) }
     requires post { IsSegPassOf line.now root.old × IsTied board.now.shared.table_id root.old.me.view.client }
-    requires crew { (rest : List (PassView L.Part L.Op L.Reply)) × (seat.old.me ≡ (Crew (new_pass procs objects number home ∷ rest), [])) }
+    requires crew { (rest : List (PassView L.Part L.Op L.Reply)) × (seat.old.me ≡ (Crew (new_pass procs (map L.shapes board.now.shared.key.layouts.items) number home ∷ rest), [])) }
     ensures ours { (seat.new.table_id ≡ seat.old.table_id) × (seat.new.me ≡ (dealer seat.old.me.0, [])) }
     ensures post { IsSegPassOf line.now root.new × IsTied board.now.shared.table_id root.new.me.view.client }
-    ensures dealt { IfOk result (λ pass. IsNewPass board.now.shared.table_id line.now keep procs objects number home pass) }
+    ensures dealt { IfOk result (λ pass. IsNewPass board.now.shared.table_id line.now keep procs (map L.shapes board.now.shared.key.layouts.items) number home pass) }
 {
     let post = line.another::<Another>(root);
     let own = board.shared.split_seat::<Deal>(seat);
@@ -88,11 +88,11 @@ pub(crate) fn deal_all<L: Layout>(
     homes: &[u32],
 ) -> Result<Vec<Pass<L>>, Memory>
     requires ours { (seat.old.table_id ≡ board.now.shared.table_id) × (board.now.shared.table_id.words ≡ many_words) }
-    requires few { procs ≤ 8 }
+    requires few { (procs ≤ 8) × (objects ≡ length board.now.shared.key.layouts.items) }
     requires post { IsSegPassOf line.now root.old × IsTied board.now.shared.table_id root.old.me.view.client }
-    requires crew { seat.old.me ≡ (Crew (new_passes procs objects 0 homes.now), []) }
+    requires crew { seat.old.me ≡ (Crew (new_passes procs (map L.shapes board.now.shared.key.layouts.items) 0 homes.now), []) }
     requires homes { (length homes.now ≤ 16) × EachPlace (λ c home. home < 8) homes.now }
-    ensures { IfOk result (λ passes. AreDealt board.now.shared.table_id line.now keep procs objects homes.now passes.items) }
+    ensures { IfOk result (λ passes. AreDealt board.now.shared.table_id line.now keep procs (map L.shapes board.now.shared.key.layouts.items) homes.now passes.items) }
 {
     let mut passes = Vec::with_capacity(alloc, homes.len())?;
     for (number, home) in homes.iter().enumerate() {

@@ -23,7 +23,8 @@ fn stage_of(object: u32, over: bool) -> SwapAt
 
 /// Begins a swap of the object, unless one is under way.
 pub fn begin_step<L: Layout>(sys: &Sys<L>, pass: &mut Pass<L>, object: u32) -> u64
-    requires { MayStep L.Layout sys.now (protocol.begin object) pass.old }
+    requires may { MayStep L.Layout sys.now (protocol.begin object) pass.old }
+    requires told { pass.old.view.shapes ≡ sys.now.shapes }
     ensures { HasStepped L.Layout sys.now (protocol.begin object) pass.old result pass.new }
 {
     let found = begin_word(&sys.board, &mut pass.seat, object as usize);
@@ -34,6 +35,6 @@ pub fn begin_step<L: Layout>(sys: &Sys<L>, pass: &mut Pass<L>, object: u32) -> u
     if is_swapped(found) {
         return found;
     }
-    pass.swap = stage_of(object, is_over(found));
+    pass.swap = stage_of(object, is_over(found, sys.declared(object).live()));
     found
 }

@@ -1,5 +1,5 @@
 //! A system.
-ghost use Rattle.std.specs.Prelude.{◌≡◌, ◌<◌, ◌≤◌, Some, length, slice_get, IfOk};
+ghost use Rattle.std.specs.Prelude.{◌≡◌, ◌<◌, ◌≤◌, Some, [], length, slice_get, slice_index_or, IfOk};
 ghost use Rattle.k42_limits.specs.declared.TheConstants.{OBJECTS, PROCESSORS};
 ghost use Rattle.k42_rule.specs.Finishing.{AreAtRest, AreLastLists, lists_in};
 ghost use Rattle.k42_rule.specs.Opened.{IsOpened};
@@ -29,7 +29,7 @@ pub struct Sys<L: Layout> {
 }
 
 impl<L: Layout> Model for Sys<L> {
-    ghost use Rattle.std.specs.Prelude.{◌≡◌, ◌<◌, ◌≤◌, length};
+    ghost use Rattle.std.specs.Prelude.{◌≡◌, ◌<◌, ◌≤◌, length, map};
     ghost use Rattle.k42_limits.specs.declared.TheConstants.{PROCESSORS};
     ghost use Rattle.k42_stamp.specs.Laws.{AreLaws};
     ghost use Rattle.k42_rule.specs.Tags.{HaveTags};
@@ -45,16 +45,17 @@ impl<L: Layout> Model for Sys<L> {
       keep = s.keep;
       procs = s.board.shared.key.procs;
       layouts = s.board.shared.key.layouts.items;
+      shapes = map L.shapes s.board.shared.key.layouts.items;
       callers = s.board.shared.key.callers.items;
     } };
 
     ghost invariant = { λ s. (s.board.shared.table_id.words ≡ many_words) × (s.board.shared.table_id.slots ≡ many_slots)
         × (s.layouts.items ≡ s.board.shared.key.layouts.items) × (s.procs ≡ s.board.shared.key.procs)
         × (length s.layouts.items ≤ 16)
-        × AreLaws (layouts_on L.object L.tag_of L.ways L.whole L.serves L.admitted L.act_of s.board.shared.key.procs s.board.shared.key.callers.items)
+        × AreLaws (layouts_on L.object L.shapes L.tag_of L.ways L.whole L.serves L.admitted L.act_of s.board.shared.key.procs s.board.shared.key.callers.items)
         × (0 < length s.board.shared.key.callers.items)
         × (s.board.shared.key.procs ≤ PROCESSORS)
-        × HaveTags L.has_tag s.layouts.items };
+        × HaveTags L.shapes L.has_tag s.layouts.items };
 }
 
 impl<L: Layout> Sys<L> {
@@ -66,8 +67,8 @@ impl<L: Layout> Sys<L> {
         callers: Vec<u32>,
         keep: Keep,
     ) -> Result<(Sys<L>, Vec<Pass<L>>), Memory>
-        requires start { IsStart L.tag_of layouts.items procs callers.items }
-        requires tags { HaveTags L.has_tag layouts.items }
+        requires start { IsStart L.shapes L.tag_of layouts.items procs callers.items }
+        requires tags { HaveTags L.shapes L.has_tag layouts.items }
         ensures started { IfOk result (λ made. IsStarted layouts.items procs callers.items made.0 made.1.items) }
         ensures keeps { IfOk result (λ made. made.0.keep ≡ keep) }
         ensures opened { IfOk result (λ made. IsOpened
@@ -149,7 +150,8 @@ impl<L: Layout> Sys<L> {
     pub fn declared(&self, object: u32) -> L
         requires { object < length self.now.layouts }
         ensures is { slice_get self.now.layouts object ≡ Some result }
-        ensures tags { HasTags L.has_tag result }
+        ensures shapes { slice_index_or self.now.shapes object [] ≡ L.shapes result }
+        ensures tags { HasTags L.shapes L.has_tag result }
     {
         self.layouts[object as usize]
     }

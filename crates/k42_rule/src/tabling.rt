@@ -108,7 +108,7 @@ pub fn install_step<L: Layout>(sys: &Sys<L>, pass: &mut Pass<L>, object: u32, ce
     let incarnation = row_in(&pass.place);
     let layout = pass.layout.unwrap_or(0);
     let old = empty_word(incarnation);
-    let new = direct_word(layout, pass.home, incarnation);
+    let new = direct_word(layout, cell, incarnation);
     let found = install_word(
         &sys.board,
         &mut pass.seat,

@@ -6,12 +6,13 @@ use Rattle.k42_kinds.specs.LayoutLaws.{Agree}
 use Rattle.k42_kinds.specs.declared.entry.Reach.TheVariants.{One}
 use Rattle.k42_kinds.specs.declared.operation.Op.{Op}
 use Rattle.k42_kinds.specs.declared.operation.Reply.{Reply}
+use Rattle.k42_shapes.specs.Shapes.{cells_of}
 use Rattle.k42_limits.specs.declared.TheConstants.{PASS_ENTRIES}
 use Rattle.k42_memory.specs.declared.Memory.{Memory}
 use Rattle.turn_core.specs.Names.{names}
 use Rattle.turn_core.specs.Stamps.{last_stamp}
 use Rattle.k42_stamp.specs.Laws.{AreLaws}
-use Rattle.k42_stamp.specs.Layouts.{Layouts}
+use Rattle.k42_stamp.specs.Layouts.{Layouts, shape_of}
 use Rattle.k42_joined.specs.Numbers.{cell_of}
 use Rattle.k42_board.specs.Calling.{HasCalledAt, HasLeftCell, HasStepped, MayCallAt, MayCallWith, called_by, lifted_by, stepped_cell}
 use Rattle.k42_board.specs.Cells.{cells_noted}
@@ -155,7 +156,7 @@ module _ {S L P : Type 0} (F : Layouts S L P Op Reply) (laws : AreLaws F) (decla
     has = has_alone F declared layout op p n v (out_with content) content named call taken
 
     module _ (reply : Reply) (is : HasStepped (F.ways_of layout) F.procs p op reply content (after content)) where
-      made : HasSteppedCells (F.ways_of layout) F.procs op (One p) reply (content ∷ []) (after content ∷ [])
+      made : HasSteppedCells (F.ways_of layout) F.procs (cells_of (shape_of F layout) F.procs) op (One p) reply (content ∷ []) (after content ∷ [])
       made = (is.replied, refl)
 
       abbrev drew : PassView P Op Reply

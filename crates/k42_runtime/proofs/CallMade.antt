@@ -1,12 +1,15 @@
 -- A call at the cells that it needs: its operation is made on their parts, and the entry drawn.
-use Rattle.std.proofs.Common.{◌≡◌, ℕ, zero, suc, ◌<◌, ◌≤◌, Bool, true, false, cond, eqb, List, [], ◌∷◌, Some, None, length, refl, sym, ap, ◌∙◌, subst, arith}
+use Rattle.std.proofs.Common.{◌≡◌, ℕ, zero, suc, ◌+◌, ◌<◌, ◌≤◌, true, List, [], ◌∷◌, Option, Some, None, length, take, drop, refl, sym, ap, ◌∙◌, subst, arith}
 use Rattle.std.specs.List.{slice_get}
 use Rattle.std.specs.Option.{unwrap_or}
-use Rattle.std.proofs.lemmas.List.{length-map}
+use Rattle.std.proofs.lemmas.List.{length-map, take-map}
 use Rattle.std.proofs.lemmas.Option.{same_Some, slice_get_within}
 use Rattle.k42_places.specs.Places.{EachPlace}
 use Rattle.k42_kinds.specs.LayoutLaws.{Agree, IsReached}
-use Rattle.k42_kinds.specs.Rows.{Ways, cells_of, made_from, IsWithin, row_moved}
+use Rattle.k42_kinds.specs.Rows.{Ways, made_from, IsWithin, row_moved}
+use Rattle.k42_shapes.proofs.ShapeLaws.{few_cells}
+use Rattle.k42_shapes.specs.Shapes.{cells_of}
+use Rattle.k42_shapes.specs.declared.shape.Shape.{Shape}
 use Rattle.k42_kinds.specs.declared.entry.Act.TheVariants.{Call}
 use Rattle.k42_kinds.specs.declared.entry.Answer.TheVariants.{Replied}
 use Rattle.k42_kinds.specs.declared.entry.Entry.{Entry}
@@ -20,7 +23,8 @@ use Rattle.phase_core.specs.declared.caller.Place.TheVariants.{Out, Missed, Dire
 use Rattle.turn_core.specs.Events.{caller_drawn}
 use Rattle.turn_core.specs.Names.{names, names_once}
 use Rattle.k42_stamp.specs.Laws.{AreLaws}
-use Rattle.k42_stamp.specs.Layouts.{Layouts}
+use Rattle.k42_stamp.proofs.PartsAfter.{part_at-beyond, same_shape}
+use Rattle.k42_stamp.specs.Layouts.{Layouts, shape_of}
 use Rattle.k42_joined.specs.Numbers.{cell_of, row_cells}
 use Rattle.k42_joined.specs.Rows.{cells_reached}
 use Rattle.k42_board.specs.Calling.{due_in, stepped_at}
@@ -38,7 +42,8 @@ use Rattle.k42_board.specs.declared.view.Taken.{Taken}
 use Rattle.k42_board.proofs.Gained.{extends_one, extends_as}
 use Rattle.k42_board.proofs.Noted.{each_named}
 use Rattle.k42_board.proofs.RowCells.{row_once, place_in_row}
-use Rattle.k42_rule.proofs.PartsDue.{part_reached, parts_whole}
+use Rattle.k42_board.specs.Parts.{HasDue}
+use Rattle.k42_rule.proofs.PartsDue.{first_note, many_parts, part_reached, parts_whole}
 use Rattle.k42_mediator.specs.Parts.{parts_from}
 use Rattle.k42_mediator.specs.Taken.{released}
 use Rattle.turn_core.specs.Stamps.{last_stamp}
@@ -46,7 +51,7 @@ use Rattle.k42_mediator.proofs.GivenBack.{held_due, released_drawn}
 use Rattle.k42_mediator.proofs.Logs.{log_now}
 use Rattle.k42_mediator.proofs.NotesHanded.{part_at_once}
 use Rattle.k42_mediator.proofs.NotesTold.{told_part}
-use Rattle.k42_mediator.proofs.RowMoved.{length_made, at_of, filled_numbers, filled_parts, filled_held, parts_noted}
+use Rattle.k42_mediator.proofs.RowMoved.{length_made, take_made, at_of, in_take, in_drop, filled_numbers, filled_parts, filled_held, parts_noted}
 use Rattle.k42_mediator.proofs.RowReady.{told_numbers}
 use Rattle.k42_runtime.specs.Reaching.{HasTakenNext, MayGiveBack}
 use Rattle.k42_runtime.specs.Serving.{object_inside, row_inside, IsCallAt, HasCells, HasMade}
@@ -61,11 +66,10 @@ served_inside (Missed o i) e = absurd (cc)
 served_inside (AtMediator o) e = absurd (cc)
 served_inside (Blocked o) e = absurd (cc)
 
-few_cells : (tag procs p : ℕ) → 0 < procs → p < cells_of tag procs → p < procs
-few_cells tag procs p some = go (eqb tag 1) where
-  go : (b : Bool) → p < cond b procs 1 → p < procs
-  go true lt = lt
-  go false lt = omega (arith, lt, some)
+-- where none is due there is none
+none_due : {S P : Type 0} (ways : Ways S P Op Reply) (procs p : ℕ) (own : Option P) → HasDue ways procs p own None → own ≡ None
+none_due ways procs p None is = refl
+none_due ways procs p (Some part) is = absurd is
 
 -- a list with one number is that of one cell
 record IsSingle {P : Type 0} (cells : List (Content P Op Reply)) (n : ℕ) : Type 0 where
@@ -108,7 +112,6 @@ module _ {S L P : Type 0} (F : Layouts S L P Op Reply) (declared : List L) (layo
     on = subst (λ (x : PassView P Op Reply). x.turn.proc < F.procs) (sym e) is.on;
     takes = is.takes;
     reaches = is.reaches ∙ ap (λ (x : PassView P Op Reply). (F.ways_of layout).reach F.procs op x.turn.proc) (sym e);
-    spread = is.spread;
   }
 
   -- the one cell is taken
@@ -139,6 +142,12 @@ module _ {S L P : Type 0} (F : Layouts S L P Op Reply) (laws : AreLaws F) (decla
   abbrev ways : Ways S P Op Reply
   ways = F.ways_of layout
 
+  abbrev many : ℕ
+  many = cells_of (shape_of F layout) F.procs
+
+  many_few : many ≤ F.procs
+  many_few = few_cells (shape_of F layout) F.procs laws.some
+
   inside : IsInside v.visitor.place o i
   inside = served_inside v.visitor.place has.call.served
 
@@ -161,21 +170,22 @@ module _ {S L P : Type 0} (F : Layouts S L P Op Reply) (laws : AreLaws F) (decla
 
     within : p < F.procs
     within =
-        few_cells (F.tag_of layout) F.procs p laws.some
-        (subst (IsWithin (cells_of (F.tag_of layout) F.procs)) (sym has.call.reaches ∙ e) (laws.reaches layout v.turn.proc op has.call.known has.call.on has.call.takes))
+        let lt : p < many =
+        subst (IsWithin many) (sym has.call.reaches ∙ e) (laws.reaches layout v.turn.proc op has.call.known has.call.on has.call.takes) in
+        let few = many_few in omega (arith, lt, few)
 
-    may_one : MayStepCells ways F.procs (F.Whole layout) op (One p) cells
+    may_one : MayStepCells ways F.procs (F.Whole layout) many op (One p) cells
     may_one =
-        subst (MayStepCells ways F.procs (F.Whole layout) op (One p)) (sym one.are) (
+        subst (MayStepCells ways F.procs (F.Whole layout) many op (One p)) (sym one.are) (
           within,
           subst (λ part. IsReached ways (F.Whole layout) part op) (sym due_is)
               (part_reached F laws declared v.notes o i has.call.declaration layout has.call.declares has.call.same row_is agrees op v.turn.proc p has.call.on has.call.takes (sym has.call.reaches ∙ e)
               (ap (names (cells_noted v.notes)) (sym one.number) ∙ here.noted)),
         )
 
-    stepped_one : (reply : Reply) (news : List (Content P Op Reply)) → HasSteppedCells ways F.procs op (One p) reply cells news
+    stepped_one : (reply : Reply) (news : List (Content P Op Reply)) → HasSteppedCells ways F.procs many op (One p) reply cells news
         → (reply ≡ ways.part_reply (due_in ways F.procs p one.cell) op) × (news ≡ stepped_at ways F.procs p op one.cell ∷ [])
-    stepped_one reply news made = subst (λ cs. HasSteppedCells ways F.procs op (One p) reply cs news) one.are made
+    stepped_one reply news made = subst (λ cs. HasSteppedCells ways F.procs many op (One p) reply cs news) one.are made
 
     stepped_held : IsHeld v.notes (stepped_at ways F.procs p op one.cell)
     stepped_held = record { noted = here.noted; history = here.history; closed = here.closed }
@@ -186,35 +196,61 @@ module _ {S L P : Type 0} (F : Layouts S L P Op Reply) (laws : AreLaws F) (decla
     all_numbers : numbers_of cells ≡ row_cells F.procs o i
     all_numbers = has.numbers ∙ ap (cells_reached F.procs o i) e
 
-    all_cells : cells_of (F.tag_of layout) F.procs ≡ F.procs
-    all_cells = ap (λ t. cells_of t F.procs) (has.call.spread e)
-
     all_long : length cells ≡ F.procs
     all_long = sym (length-map cells (λ (content : Content P Op Reply). content.number)) ∙ ap length all_numbers ∙ length_made (cell_of o i) 0 F.procs
 
-    noted_at : (p : ℕ) → p < cells_of (F.tag_of layout) F.procs → names (cells_noted v.notes) (cell_of o i p) ≡ true
+    noted_at : (p : ℕ) → p < F.procs → names (cells_noted v.notes) (cell_of o i p) ≡ true
     noted_at p lt =
-        let long = all_long in let many = all_cells in
-        let at = at_of cells p (omega (arith, long, many, lt)) in
+        let long = all_long in
+        let at = at_of cells p (omega (arith, long, lt)) in
         let is = place_in_row cells F.procs o i all_numbers procs_few p at.0 at.1 in
         ap (names (cells_noted v.notes)) (sym is.0) ∙ (has.taken p at.0 at.1).held.noted
 
-    parts_are : parts_from ways F.procs 0 cells ≡ parts_due ways F.procs v.notes o i (F.tag_of layout)
-    parts_are =
-        parts_noted ways F.procs v o i 0 F.procs cells all_numbers has.taken
-        ∙ ap (λ many. made_from (part_due ways F.procs v.notes o i) 0 many) (sym all_cells)
+    noted_first : (p : ℕ) → p < many → names (cells_noted v.notes) (cell_of o i p) ≡ true
+    noted_first p lt = let few = many_few in noted_at p (omega (arith, lt, few))
 
-    whole : F.Whole layout F.procs (parts_from ways F.procs 0 cells)
+    -- the first cells have the parts that are due
+    own_numbers : numbers_of (take many cells) ≡ made_from (cell_of o i) 0 many
+    own_numbers =
+        sym (take-map (λ (content : Content P Op Reply). content.number) many cells) ∙ ap (take many) all_numbers
+        ∙ take_made (cell_of o i) 0 F.procs many many_few
+
+    parts_are : parts_from ways F.procs 0 (take many cells) ≡ parts_due ways F.procs v.notes o i (shape_of F layout)
+    parts_are = parts_noted ways F.procs v o i 0 many (take many cells) own_numbers (λ k x at. has.taken k x (in_take many cells k x at))
+
+    -- and those behind them none
+    row_long : length row_is.row ≡ many
+    row_long =
+        many_parts F laws declared v.notes o i (F.tag_of layout) row_is
+        ∙ ap (λ (shape : Shape). cells_of shape F.procs)
+        (same_shape F laws row_is.layout layout
+        (row_is.same ∙ ap F.object_of (same_Some row_is.declaration has.call.declaration (sym row_is.declares ∙ has.call.declares)) ∙ sym has.call.same) row_is.tagged)
+
+    none_noted : (p : ℕ) → many ≤ p → p < F.procs → part_noted v.notes (cell_of o i p) ≡ None
+    none_noted p le lt =
+        let first = first_note v.notes (cell_of o i p) (noted_at p lt) in let long = row_long in
+        first.part
+        ∙ none_due (F.ways_of row_is.layout) F.procs p first.note.part
+        (subst (HasDue (F.ways_of row_is.layout) F.procs p first.note.part) (part_at-beyond row_is.row p (omega (arith, le, long)))
+        (row_is.parts first.place p first.note lt first.there first.named))
+
+    none_behind : EachPlace (λ place (content : Content P Op Reply). content.part ≡ None) (drop many cells)
+    none_behind k content at =
+        let there = in_drop many cells k content at in
+        let is = place_in_row cells F.procs o i all_numbers procs_few (many + k) content there in
+        (has.taken (many + k) content there).part ∙ ap (part_noted v.notes) is.0 ∙ none_noted (many + k) (omega arith) is.1
+
+    whole : F.Whole layout F.procs (parts_from ways F.procs 0 (take many cells))
     whole =
         subst (F.Whole layout F.procs) (sym parts_are)
-        (parts_whole F laws declared v.notes o i has.call.declaration layout has.call.declares has.call.same row_is agrees noted_at)
+        (parts_whole F laws declared v.notes o i has.call.declaration layout has.call.declares has.call.same row_is agrees noted_first)
 
-    may_all : MayStepCells ways F.procs (F.Whole layout) op All cells
+    may_all : MayStepCells ways F.procs (F.Whole layout) many op All cells
     may_all =
-        let parts = parts_from ways F.procs 0 cells in
+        let parts = parts_from ways F.procs 0 (take many cells) in
         let after : F.Whole layout F.procs (ways.row_after parts op) =
         subst (λ r. F.Whole layout F.procs (row_moved ways parts op r)) (sym has.call.reaches ∙ e) (laws.steps layout v.turn.proc parts op has.call.known has.call.on has.call.takes whole).whole in (
-          all_long,
+          record { sized = all_long; few = many_few; none = none_behind },
           record {
             some = laws.some;
             whole = whole;
@@ -222,9 +258,9 @@ module _ {S L P : Type 0} (F : Layouts S L P Op Reply) (laws : AreLaws F) (decla
           },
         )
 
-  pub may_step : MayStepCells ways F.procs (F.Whole layout) op reach cells
+  pub may_step : MayStepCells ways F.procs (F.Whole layout) many op reach cells
   may_step = go reach refl where
-    go : (r : Reach) → reach ≡ r → MayStepCells ways F.procs (F.Whole layout) op r cells
+    go : (r : Reach) → reach ≡ r → MayStepCells ways F.procs (F.Whole layout) many op r cells
     go (One p) e = may_one p e
     go All e = may_all e
 
@@ -248,12 +284,12 @@ module _ {S L P : Type 0} (F : Layouts S L P Op Reply) (laws : AreLaws F) (decla
   pub may_give_taken : (id : ℕ) → MayGiveBack F declared id v cells
   may_give_taken id = may_give F declared laws id v cells once has.back has.held has.taken small
 
-  module _ (reply : Reply) (news : List (Content P Op Reply)) (made : HasSteppedCells ways F.procs op reach reply cells news) where
+  module _ (reply : Reply) (news : List (Content P Op Reply)) (made : HasSteppedCells ways F.procs many op reach reply cells news) where
     pub numbers_stepped : numbers_of news ≡ numbers_of cells
     numbers_stepped = go reach refl made where
-      go : (r : Reach) → reach ≡ r → HasSteppedCells ways F.procs op r reply cells news → numbers_of news ≡ numbers_of cells
+      go : (r : Reach) → reach ≡ r → HasSteppedCells ways F.procs many op r reply cells news → numbers_of news ≡ numbers_of cells
       go (One p) e made' = ap numbers_of (stepped_one p e reply news made').1 ∙ ap numbers_of (sym (one p e).are)
-      go All e made' = ap numbers_of made'.1 ∙ filled_numbers (ways.row_after (parts_from ways F.procs 0 cells) op) cells
+      go All e made' = ap numbers_of made'.1 ∙ filled_numbers (ways.row_after (parts_from ways F.procs 0 (take many cells)) op) cells
 
     pub long_stepped : length news ≡ length cells
     long_stepped =
@@ -261,17 +297,17 @@ module _ {S L P : Type 0} (F : Layouts S L P Op Reply) (laws : AreLaws F) (decla
 
     held_stepped : AreHeld v.notes news
     held_stepped = go reach refl made where
-      go : (r : Reach) → reach ≡ r → HasSteppedCells ways F.procs op r reply cells news → AreHeld v.notes news
+      go : (r : Reach) → reach ≡ r → HasSteppedCells ways F.procs many op r reply cells news → AreHeld v.notes news
       go (One p) e made' =
           subst (AreHeld v.notes) (sym (stepped_one p e reply news made').1)
           (only (IsHeld v.notes) (stepped_at ways F.procs p op (one p e).cell) (stepped_held p e))
       go All e made' =
           subst (AreHeld v.notes) (sym made'.1)
-          (filled_held (ways.row_after (parts_from ways F.procs 0 cells) op) cells v (λ k x at. (has.taken k x at).held))
+          (filled_held (ways.row_after (parts_from ways F.procs 0 (take many cells)) op) cells v (λ k x at. (has.taken k x at).held))
 
     stepped_is : IsStepped F declared layout v.notes o i news op reach reply
     stepped_is = go reach refl made where
-      go : (r : Reach) → reach ≡ r → HasSteppedCells ways F.procs op r reply cells news → IsStepped F declared layout v.notes o i news op r reply
+      go : (r : Reach) → reach ≡ r → HasSteppedCells ways F.procs many op r reply cells news → IsStepped F declared layout v.notes o i news op r reply
       go (One p) e made' =
           let is = stepped_one p e reply news made' in let due = due_is p e in (
             is.0 ∙ ap (λ part. ways.part_reply part op) due,
@@ -280,7 +316,7 @@ module _ {S L P : Type 0} (F : Layouts S L P Op Reply) (laws : AreLaws F) (decla
                 (ap (λ part. Some (ways.part_after part op)) due)),
           )
       go All e made' =
-          let parts = parts_from ways F.procs 0 cells in let are = parts_are e in
+          let parts = parts_from ways F.procs 0 (take many cells) in let are = parts_are e in
           subst (λ ps. (reply ≡ ways.row_reply ps op) × HaveParts (ways.row_after ps op) news) are
           (made'.0, subst (HaveParts (ways.row_after parts op)) (sym made'.1) (filled_parts (ways.row_after parts op) cells))
 

@@ -1,5 +1,5 @@
 -- A plan is what a table asks of a start, and its passes are the first of the system.
-use Rattle.std.proofs.Common.{◌≡◌, zero, suc, ◌≤◌, List, [], ◌∷◌, map, slice_index, refl, ap, ◌∙◌, subst, arith}
+use Rattle.std.proofs.Common.{◌≡◌, zero, suc, ◌<◌, List, [], ◌∷◌, map, slice_index, refl, ap, ◌∙◌, subst, arith}
 use Rattle.std.proofs.lemmas.List.{length-map}
 use Rattle.std.proofs.lemmas.Option.{same_Some}
 use Rattle.co_any.specs.Layouts.{tag_named}
@@ -9,25 +9,24 @@ use Rattle.k42_places.specs.Places.{EachPlace}
 use Rattle.phase_core.specs.Stages.{is_out}
 use Rattle.k42_board.specs.Seen.{SysSeen, keeping}
 use Rattle.k42_board.specs.Starting.{IsStart, IsStarted}
-use Rattle.k42_board.specs.Views.{new_pass}
 use Rattle.k42_board.specs.declared.view.PassView.{PassView}
 use Rattle.k42_rule.specs.Opened.{IsOpened}
 use Rattle.k42_runtime.specs.Plans.{PlanSeen, IsSoundPlan}
-use Rattle.k42_runtime.specs.Systems.{IsPlanned, IsFirst, HasStarted, any_layouts, layout_of, layouts_of, tag_in, SystemPart, SystemLayout, SystemPass}
+use Rattle.k42_runtime.specs.Systems.{LIVE, IsPlanned, IsFirst, HasStarted, any_layouts, layout_of, layouts_of, shapes_in, tag_in, SystemPart, SystemLayout, SystemPass}
 use Rattle.k42_runtime.specs.declared.plan.ObjectPlan.{ObjectPlan}
 use Rattle.k42_kinds.specs.declared.operation.Op.{Op}
 use Rattle.k42_kinds.specs.declared.operation.Reply.{Reply}
 
-low : (layout : LayoutName) → tag_named layout ≤ 1
+low : (layout : LayoutName) → tag_named layout < LIVE
 low Shared = omega arith
 low Spread = omega arith
 
-live : (objects : List ObjectPlan) → EachPlace (λ o (layout : SystemLayout). layout.inner.tag ≤ 1) (map layout_of objects)
+live : (objects : List ObjectPlan) → EachPlace (λ o (layout : SystemLayout). layout.inner.tag < LIVE) (map layout_of objects)
 live [] o layout at = absurd (cc)
-live (object ∷ objects) zero layout at = subst (λ (l : SystemLayout). l.inner.tag ≤ 1) (same_Some (layout_of object) layout at) (low object.layout)
+live (object ∷ objects) zero layout at = subst (λ (l : SystemLayout). l.inner.tag < LIVE) (same_Some (layout_of object) layout at) (low object.layout)
 live (object ∷ objects) (suc o) layout at = live objects o layout at
 
-pub is_start : (plan : PlanSeen) → IsSoundPlan plan → IsStart tag_in (layouts_of plan) plan.procs plan.callers
+pub is_start : (plan : PlanSeen) → IsSoundPlan plan → IsStart shapes_in tag_in (layouts_of plan) plan.procs plan.callers
 is_start plan sound = record {
   turns = sound.turns;
   some_objects = let some = sound.some_objects in let same = length-map plan.objects layout_of in omega (arith, some, same);
@@ -38,7 +37,7 @@ is_start plan sound = record {
 -- the table is the plan's
 pub planned : (plan : PlanSeen) (sys : SysSeen SystemLayout) (passes : List SystemPass) → IsSoundPlan plan → IsStarted (layouts_of plan) plan.procs plan.callers sys passes
     → sys.keep ≡ plan.keep → IsPlanned (record { sys = sys; plan = plan })
-planned plan sys passes sound is keeps = record { sound = sound; procs = is.procs_are; layouts = is.layouts_are; callers = is.callers_are; keep = keeps }
+planned plan sys passes sound is keeps = record { sound = sound; procs = is.procs_are; layouts = is.layouts_are; shaped = is.shaped ∙ length-map plan.objects layout_of; callers = is.callers_are; keep = keeps }
 
 -- a system that was started so
 pub started : (plan : PlanSeen) (sys : SysSeen SystemLayout) (passes : List SystemPass) → IsSoundPlan plan → IsStarted (layouts_of plan) plan.procs plan.callers sys passes
@@ -61,7 +60,7 @@ started plan sys passes sound is keeps opened = record {
           held = ap (λ (v : PassView SystemPart Op Reply). v.taker.held) dealt.new;
           notes = ap (λ (v : PassView SystemPart Op Reply). v.notes) dealt.new;
         };
-        new = dealt.new ∙ ap (λ n. new_pass plan.procs n c (slice_index plan.callers c)) (length-map plan.objects layout_of);
+        new = dealt.new;
         rows = dealt.rows;
         keep = dealt.keeps ∙ ap keeping keeps;
       }

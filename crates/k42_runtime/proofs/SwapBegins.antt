@@ -10,7 +10,7 @@ use Rattle.k42_board.proofs.Gained.{extends_as, extends_on, extends_one}
 use Rattle.k42_board.specs.Drawing.{IsDrawer, entry_alone, alone_view, stamp_next}
 use Rattle.k42_board.specs.Log.{ComesTo, Extends, step_at, took, with_log}
 use Rattle.k42_board.specs.Seen.{PassSeen, IsRoomier, IsSamePass}
-use Rattle.k42_board.specs.Views.{object_begun, word_begun}
+use Rattle.k42_board.specs.Views.{object_begun, word_begun, live_at}
 use Rattle.k42_board.specs.Words.{object_word, role_word}
 use Rattle.k42_board.specs.declared.view.PassView.{PassView}
 use Rattle.k42_board.specs.declared.view.StepName.TheVariants as names
@@ -20,6 +20,7 @@ use Rattle.k42_mediator.specs.declared.answers.Begun.{Begun}
 use Rattle.k42_mediator.specs.declared.answers.Begun.TheVariants as begins
 use Rattle.k42_mediator.specs.declared.answers.Phase.{Phase}
 use Rattle.k42_runtime.specs.Phases.{HasGoneOn}
+use Rattle.k42_runtime.specs.Systems.{LIVE}
 use Rattle.k42_runtime.specs.Swaps.{SwapSeen, IsSameCaller, IsWornOut, HasSwapped, IsEndTo, IsEndBy, graces_due}
 use Rattle.k42_runtime.specs.declared.swaps.Stage.TheVariants.{New, Waiting, Marking}
 use Rattle.k42_runtime.specs.declared.swaps.Swapped.TheVariants as ends
@@ -117,9 +118,9 @@ module _ {S L P : Type 0} (F : Layouts S L P Op Reply) (declared : List L) (o : 
   module _ (drawn : PassSeen P Op Reply) (to : To) (number : ℕ) (draws : IsDrawer new drawn)
       (later : last_stamp new.view.taker.mine < stamp_next new.view [])
       (is : drawn.view ≡ took names.Draw role_word 0 (alone_view (entry_alone new.view (Swap to) (answers.Busy number)) new.view)) where
-    pub refused_by : (answer : Begun) (phase : Phase) → answer ≡ begun_in (word_begun new.view.last) → answer ≡ begins.Busy number phase
+    pub refused_by : (answer : Begun) (phase : Phase) → live_at roomy.view o ≡ LIVE → answer ≡ begun_in (live_at roomy.view o) (word_begun new.view.last) → answer ≡ begins.Busy number phase
         → IsRefused o number to old drawn
-    refused_by answer phase found busy = record {
+    refused_by answer phase live found busy = record {
       swapped = swapped_before old.view new.view drawn.view begun_caller begun_drawn o to (ends.Busy number) (refused o number to new.view drawn.view begun_object later is);
       caller = record {
         number = ap (λ (u : PassView P Op Reply). u.number) is ∙ begun_caller.number;
@@ -133,5 +134,5 @@ module _ {S L P : Type 0} (F : Layouts S L P Op Reply) (declared : List L) (o : 
       keep = draws.keep ∙ begun_keep;
       told =
           subst (λ (word : ℕ). IsEndBy word (ends.Busy number)) (sym (ap (λ (u : PassView P Op Reply). word_begun u.last) is))
-          (subst (λ (b : Begun). IsEndTo b (word_begun new.view.last) (ends.Busy number)) (sym busy ∙ found) refl);
+          (subst (λ (b : Begun). IsEndTo b (word_begun new.view.last) (ends.Busy number)) (sym busy ∙ found ∙ ap (λ (n : ℕ). begun_in n (word_begun new.view.last)) live) refl);
     }

@@ -25,7 +25,7 @@ use Rattle.k42_board.specs.Swapping.{at_swap, cleared_view, object_swapped, clea
 use Rattle.k42_board.specs.Tabling.{is_over_in}
 use Rattle.k42_board.specs.Taking.{LockFound, locked_view}
 use Rattle.k42_board.specs.Values.{answer_in, layout_in, incarnation_in}
-use Rattle.k42_board.specs.Views.{object_begun, word_begun}
+use Rattle.k42_board.specs.Views.{object_begun, word_begun, live_at}
 use Rattle.k42_board.specs.Words.{lock_word, object_word, role_word}
 use Rattle.k42_board.specs.declared.view.PassView.{PassView}
 use Rattle.k42_board.specs.declared.view.StepName.TheVariants as names
@@ -37,6 +37,7 @@ use Rattle.k42_mediator.specs.declared.answers.Marked.TheVariants as marks
 use Rattle.k42_mediator.specs.Swaps.{abandoned_view, HasGivenUp}
 use Rattle.turn_core.specs.Stamps.{last_stamp}
 use Rattle.k42_runtime.specs.Phases.{end_in}
+use Rattle.k42_runtime.specs.Systems.{LIVE}
 use Rattle.k42_runtime.specs.Swaps.{HasFoundFree, IsSameCaller, HasSwapped, HasAbandoned, IsCellHeld, IsEndBy, answer_told, incarnation_told, cell_told}
 use Rattle.k42_runtime.specs.declared.swaps.Swapped.TheVariants as ends
 use Rattle.k42_kinds.specs.declared.entry.To.{To}
@@ -81,7 +82,7 @@ gave_up F declared id object to v w x kept knows begun free unturned swapped act
     up.cleared.finds refl (ap (λ (u : PassView _ Op Reply). u.turned) kept.knows ∙ unturned) in
     record {
       begun = ap object_begun last ∙ begun;
-      free = ap (λ l. begun_in (word_begun l)) last ∙ free;
+      free = ap (λ l. begun_in LIVE (word_begun l)) last ∙ free;
       entry = entry;
       next =
           subst (λ l. IsNext v object (incarnation_in (word_begun l)) 0 (Swap to) (Abandoned (incarnation_in (word_begun l) + 1)) entry) (sym last)
@@ -118,9 +119,9 @@ pub record IsOverTo (word : ℕ) (answer : Answer Reply) : Type 0 where
   pub cell : (object other : ℕ) → cell_told object (end_in word) other ≡ cell_of object (incarnation_in other) 0
   pub ends : IsEndBy word (end_in word)
 
-pub over_ends : (word : ℕ) (answer : Answer Reply) → is_over_in word ≡ true → answer_in word ≡ Some answer → IsOverTo word answer
-over_ends word answer over told = go (eqb (layout_in word) 2) (eqb (incarnation_in word) LAST_INCARNATION) refl refl where
-  go : (dead last : Bool) → eqb (layout_in word) 2 ≡ dead → eqb (incarnation_in word) LAST_INCARNATION ≡ last → IsOverTo word answer
+pub over_ends : (word : ℕ) (answer : Answer Reply) → is_over_in LIVE word ≡ true → answer_in LIVE word ≡ Some answer → IsOverTo word answer
+over_ends word answer over told = go (eqb (layout_in word) LIVE) (eqb (incarnation_in word) LAST_INCARNATION) refl refl where
+  go : (dead last : Bool) → eqb (layout_in word) LIVE ≡ dead → eqb (incarnation_in word) LAST_INCARNATION ≡ last → IsOverTo word answer
   go true last e f = record {
     told = let same : Some Gone ≡ Some answer = rw e at told in rw e (sym (same_Some Gone answer same));
     incarnation = λ other. rw e refl;
@@ -135,13 +136,20 @@ over_ends word answer over told = go (eqb (layout_in word) 2) (eqb (incarnation_
   }
   go false false e f = absurd (let no : true ≡ false = sym over ∙ (λ j. e j || f j) in cc)
 
+-- by how many live layouts the object has
+pub told_here : (word : ℕ) (answer : Answer Reply) (many : ℕ) → many ≡ LIVE → answer_in many word ≡ Some answer → answer_in LIVE word ≡ Some answer
+told_here word answer many live told = ap (λ (n : ℕ). answer_in {R = Reply} n word) (sym live) ∙ told
+
+pub over_here : (word many : ℕ) → many ≡ LIVE → is_over_in many word ≡ true → is_over_in LIVE word ≡ true
+over_here word many live over = ap (λ (n : ℕ). is_over_in n word) (sym live) ∙ over
+
 -- it was told so
 pub marked : {P : Type 0} (object : ℕ) (to : To) (old new : PassSeen P Op Reply) → object_begun old.view.last ≡ object
-    → is_over_in (word_begun old.view.last) ≡ true → HasMarked (Swap to) old new
+    → live_at old.view (object_begun old.view.last) ≡ LIVE → is_over_in LIVE (word_begun old.view.last) ≡ true → HasMarked (Swap to) old new
     → HasSwapped object to (end_in (word_begun old.view.last)) old.view new.view
-marked object to old new begun over has =
+marked object to old new begun live over has =
     let word : ℕ = word_begun old.view.last in
-    let is = over_ends word has.answer over has.told in
+    let is = over_ends word has.answer over (told_here word has.answer (live_at old.view (object_begun old.view.last)) live has.told) in
     let last : new.view.last ≡ old.view.last = ap (λ (u : PassView _ Op Reply). u.last) has.comes.knows in
     record {
       begun = ap object_begun last ∙ begun;
@@ -157,7 +165,7 @@ marked object to old new begun over has =
 
 -- the cell was held
 pub found_held : {P : Type 0} (holder : ℕ) (v w : PassView P Op Reply) → w ≡ took names.Lock (lock_word (cell_marked v)) (holder + 1) (locked_view (cell_marked v) (holder + 1) v)
-    → LockFound (cell_marked v) v (holder + 1) → is_over_in (word_begun v.last) ≡ true
+    → LockFound (cell_marked v) v (holder + 1) → is_over_in LIVE (word_begun v.last) ≡ true
     → (w ≡ took names.Lock (lock_word (cell_marked v)) (holder + 1) v) × IsCellHeld holder v w
 found_held holder v w is finds over =
     let n : ℕ = cell_marked v in
@@ -166,7 +174,7 @@ found_held holder v w is finds over =
     let few = finds.small in (
       knows,
       record {
-        over = ap (λ (u : PassView _ Op Reply). is_over_in (word_begun u.last)) knows ∙ over;
+        over = ap (λ (u : PassView _ Op Reply). is_over_in LIVE (word_begun u.last)) knows ∙ over;
         locked = record {
           gained = [];
           log =

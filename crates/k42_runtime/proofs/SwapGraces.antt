@@ -25,6 +25,7 @@ use Rattle.k42_quiesce.specs.declared.steps.Held.{Held}
 use Rattle.k42_quiesce.specs.declared.steps.Held.TheVariants.{Left, RoleHeld}
 use Rattle.k42_mediator.specs.Answers.{begun_in}
 use Rattle.k42_runtime.specs.Phases.{cause_in}
+use Rattle.k42_runtime.specs.Systems.{LIVE}
 use Rattle.k42_runtime.specs.Swaps.{SwapSeen, IsUnderWay, IsWaiting, HasFoundFree, IsAtStage, IsSameCaller, IsHeldUpBy, MayHoldUp, IsStepBy, graces_due}
 use Rattle.k42_runtime.specs.declared.swaps.Cause.{Cause}
 use Rattle.k42_runtime.specs.declared.swaps.Cause.TheVariants as causes
@@ -111,7 +112,7 @@ module _ {P : Type 0} (objects : ℕ) (s t : SwapSeen) (old new : PassSeen P Op 
           row = subst (λ n. 0 < n) (sym same.row_room) way.row;
           few = subst (λ (x : turns.Caller Op Reply). length x.mine < PASS_ENTRIES) (sym taker) way.few;
         },
-        ap (λ last. begun_in (word_begun last)) last ∙ free,
+        ap (λ last. begun_in LIVE (word_begun last)) last ∙ free,
         is,
       )
 
@@ -122,7 +123,7 @@ module _ {P : Type 0} (objects : ℕ) (s t : SwapSeen) (old new : PassSeen P Op 
       subst (λ (x : ℕ × ℕ). new.view.graces + x.0 ≤ old.view.graces + x.1)
       (λ j. (graces_due (sym (stays ∙ first) j) (sym is j), graces_due (sym first j) (sym was j))) le
 
-  told_free : (word : ℕ) (cause : Cause) → begun_in word ≡ Begun → MayHoldUp Begun cause → IsStepBy word (steps.Again cause)
+  told_free : (word : ℕ) (cause : Cause) → begun_in LIVE word ≡ Begun → MayHoldUp Begun cause → IsStepBy word (steps.Again cause)
   told_free word cause e may = subst (λ b. MayHoldUp b cause) (sym e) may
 
   pub held_up : (answer : GraceStep) (held : Held) → answer ≡ Again held
@@ -145,7 +146,7 @@ module _ {P : Type 0} (objects : ℕ) (s t : SwapSeen) (old new : PassSeen P Op 
         taker = has.taker;
         place = has.place;
         notes = has.notes;
-        told = told_free (word_begun new.view.last) (causes.Left proc left) (ap (λ last. begun_in (word_begun last)) has.last ∙ free) tt;
+        told = told_free (word_begun new.view.last) (causes.Left proc left) (ap (λ last. begun_in LIVE (word_begun last)) has.last ∙ free) tt;
         found = is;
       }
   held_up answer (RoleHeld holder) e looks holds goes =
@@ -170,7 +171,7 @@ module _ {P : Type 0} (objects : ℕ) (s t : SwapSeen) (old new : PassSeen P Op 
         notes = ap (λ (v : PassView P Op Reply). v.notes) knows;
         told =
             told_free (word_begun new.view.last) (causes.RoleHeld holder)
-            (ap (λ (v : PassView P Op Reply). begun_in (word_begun v.last)) knows ∙ free) tt;
+            (ap (λ (v : PassView P Op Reply). begun_in LIVE (word_begun v.last)) knows ∙ free) tt;
         found = record {
           tried = record { gained = []; log = ap (λ (v : PassView P Op Reply). v.log) knows; meets_none = refl };
           another = λ same. is.0.finds.another (ap (λ (n : ℕ). n + 1) (same ∙ ap (λ (v : PassView P Op Reply). v.number) knows));

@@ -16,6 +16,7 @@ use Rattle.k42_quiesce.specs.declared.steps.Held.TheVariants as graces
 use Rattle.k42_watch.specs.declared.watch.Layer.{Layer}
 use Rattle.k42_watch.specs.declared.watch.Layer.TheVariants.{Keep, Place, Take}
 use Rattle.k42_runtime.specs.Swaps.{SwapSeen, IsSameCaller, IsWornOut, graces_due}
+use Rattle.k42_runtime.specs.Systems.{LIVE}
 use Rattle.k42_runtime.specs.declared.swaps.Cause.{Cause}
 use Rattle.k42_runtime.specs.declared.swaps.Cause.TheVariants as causes
 use Rattle.k42_runtime.specs.declared.swaps.NoSwap.{NoSwap}
@@ -36,7 +37,7 @@ pub record IsMoving {P : Type 0} (object : ℕ) (v : PassView P Op Reply) : Type
 -- An object is swapped to this tag: a watch and an unwatch keep the present one.
 abbrev pub tag_to : To → ℕ → ℕ
 tag_to (tos.Layout layout) present = tag_named layout
-tag_to tos.Dead present = 2
+tag_to tos.Dead present = LIVE
 tag_to tos.Watch present = present
 tag_to tos.Unwatch present = present
 
@@ -49,7 +50,7 @@ layer_to tos.Unwatch = Take
 
 -- how a swap ends that found its object over
 abbrev pub end_in : ℕ → Swapped
-end_in word = if layout_in word == 2 then ends.Gone else ends.Spent
+end_in word = if layout_in word == LIVE then ends.Gone else ends.Spent
 
 -- what holds a swap up whose grace is held up so
 abbrev pub cause_in : Held → Cause

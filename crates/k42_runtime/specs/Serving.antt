@@ -4,13 +4,12 @@ use Rattle.k42_kinds.specs.declared.entry.Act.TheVariants.{Call}
 use Rattle.k42_kinds.specs.declared.entry.Answer.TheVariants.{Replied}
 use Rattle.k42_kinds.specs.declared.entry.Entry.{Entry}
 use Rattle.k42_kinds.specs.declared.entry.Reach.{Reach}
-use Rattle.k42_kinds.specs.declared.entry.Reach.TheVariants.{All}
 use Rattle.k42_kinds.specs.declared.operation.Op.{Op}
 use Rattle.k42_kinds.specs.declared.operation.Reply.{Reply}
 use Rattle.phase_core.specs.Stages.{is_out, object_of, row_of}
 use Rattle.turn_core.specs.Events.{caller_drawn}
 use Rattle.turn_core.specs.Stamps.{last_stamp}
-use Rattle.k42_stamp.specs.Layouts.{Layouts}
+use Rattle.k42_stamp.specs.Layouts.{Layouts, IsKnown}
 use Rattle.k42_joined.specs.Rows.{cells_reached}
 use Rattle.k42_board.specs.Drawing.{numbers_of}
 use Rattle.k42_board.specs.Log.{ComesTo, Extends, with_log}
@@ -132,11 +131,10 @@ module _ {S L P : Type 0} (F : Layouts S L P Op Reply) (declared : List L) where
     pub declares : slice_get declared (object_inside v) ≡ Some declaration
     pub same : F.object_of layout ≡ F.object_of declaration
     pub tagged : v.layout ≡ Some (F.tag_of layout)
-    pub known : F.tag_of layout ≤ 2
+    pub known : IsKnown F layout
     pub on : v.turn.proc < F.procs
     pub takes : IsTrue ((F.object_of layout).takes op)
     pub reaches : reach ≡ (F.ways_of layout).reach F.procs op v.turn.proc
-    pub spread : reach ≡ All → F.tag_of layout ≡ 1
 
   -- it has taken them
   pub record HasCells

@@ -1,5 +1,6 @@
 -- An operation, made on the parts of the cells that it needs.
-use Rattle.std.specs.Prelude.{◌≡◌, ℕ, ◌<◌, List, [], ◌∷◌, ◌++◌, length}
+use Rattle.std.specs.Prelude.{◌≡◌, ℕ, ◌<◌, ◌≤◌, List, [], ◌∷◌, ◌++◌, length, take, drop, None}
+use Rattle.k42_places.specs.Places.{EachPlace}
 use Rattle.k42_kinds.specs.LayoutLaws.{IsReached}
 use Rattle.k42_kinds.specs.Rows.{Ways}
 use Rattle.k42_kinds.specs.declared.entry.Reach.{Reach}
@@ -9,6 +10,12 @@ use Rattle.k42_kinds.specs.declared.operation.Reply.{Reply}
 use Rattle.k42_board.specs.Calling.{due_in, stepped_at}
 use Rattle.k42_board.specs.declared.cell.Content.{Content}
 use Rattle.k42_mediator.specs.Parts.{parts_from, filled}
+
+-- All cells of a row are there. So many have its parts, and no other has one.
+pub record AreRow {P : Type 0} (procs many : ℕ) (contents : List (Content P Op Reply)) : Type 0 where
+  pub sized : length contents ≡ procs
+  pub few : many ≤ procs
+  pub none : EachPlace (λ place content. content.part ≡ None) (drop many contents)
 
 module _ {S P : Type 0} (ways : Ways S P Op Reply) (procs : ℕ) where
   -- the parts of a row, of which the first were taken out before
@@ -21,18 +28,18 @@ module _ {S P : Type 0} (ways : Ways S P Op Reply) (procs : ℕ) where
     pub whole : Whole procs parts
     pub same : length (ways.row_after parts op) ≡ length parts
 
-  -- the cells have what the operation needs
-  abbrev pub MayStepCells : (ℕ → List P → Type 0) → Op → Reach → List (Content P Op Reply) → Type 0
-  MayStepCells Whole op (One p) (content ∷ []) = (p < procs) × IsReached ways Whole (due_in ways procs p content) op
-  MayStepCells Whole op (One p) contents = ⊥
-  MayStepCells Whole op All contents =
-      (length contents ≡ procs) × MayStepRow Whole (parts_from ways procs 0 contents) op
+  -- the cells have what the operation needs, in a row of so many parts
+  abbrev pub MayStepCells : (ℕ → List P → Type 0) → ℕ → Op → Reach → List (Content P Op Reply) → Type 0
+  MayStepCells Whole many op (One p) (content ∷ []) = (p < procs) × IsReached ways Whole (due_in ways procs p content) op
+  MayStepCells Whole many op (One p) contents = ⊥
+  MayStepCells Whole many op All contents =
+      AreRow procs many contents × MayStepRow Whole (parts_from ways procs 0 (take many contents)) op
 
   -- the operation was made on them, with this reply
-  abbrev pub HasSteppedCells : Op → Reach → Reply → List (Content P Op Reply) → List (Content P Op Reply) → Type 0
-  HasSteppedCells op (One p) reply (old ∷ []) news =
+  abbrev pub HasSteppedCells : ℕ → Op → Reach → Reply → List (Content P Op Reply) → List (Content P Op Reply) → Type 0
+  HasSteppedCells many op (One p) reply (old ∷ []) news =
       (reply ≡ ways.part_reply (due_in ways procs p old) op) × (news ≡ stepped_at ways procs p op old ∷ [])
-  HasSteppedCells op (One p) reply olds news = ⊥
-  HasSteppedCells op All reply olds news =
-      let parts = parts_from ways procs 0 olds in
+  HasSteppedCells many op (One p) reply olds news = ⊥
+  HasSteppedCells many op All reply olds news =
+      let parts = parts_from ways procs 0 (take many olds) in
       (reply ≡ ways.row_reply parts op) × (news ≡ filled (ways.row_after parts op) olds)

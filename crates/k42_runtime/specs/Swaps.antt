@@ -30,7 +30,7 @@ use Rattle.k42_mediator.specs.declared.answers.Begun.{Begun}
 use Rattle.k42_mediator.specs.declared.answers.Begun.TheVariants as begins
 use Rattle.k42_quiesce.specs.Gracing.{MayStep, IsLeft}
 use Rattle.k42_runtime.specs.Calls.{IsWorn}
-use Rattle.k42_runtime.specs.Systems.{SystemSeen, IsPassHere, IsAtRest, SystemPass}
+use Rattle.k42_runtime.specs.Systems.{LIVE, SystemSeen, IsPassHere, IsAtRest, SystemPass}
 use Rattle.k42_runtime.specs.declared.swaps.Cause.{Cause}
 use Rattle.k42_runtime.specs.declared.swaps.Cause.TheVariants as causes
 use Rattle.k42_runtime.specs.declared.swaps.NoSwap.{NoSwap}
@@ -80,7 +80,7 @@ IsWaiting object (Some holder) v =
 
 -- its Begin found the object free, alive and with an incarnation left
 abbrev pub HasFoundFree : {P : Type 0} → PassView P Op Reply → Type 0
-HasFoundFree v = begun_in (word_begun v.last) ≡ begins.Begun
+HasFoundFree v = begun_in LIVE (word_begun v.last) ≡ begins.Begun
 
 -- it has blocked its object, and waits for those who are counted
 pub record IsShut {P : Type 0} (object : ℕ) (v : PassView P Op Reply) : Type 0 where
@@ -140,11 +140,11 @@ MayHoldUp answer cause = ⊥
 
 -- the word that its Begin found decides, but for want of memory
 abbrev pub IsEndBy : ℕ → Swapped → Type 0
-IsEndBy word end = IsEndTo (begun_in word) word end
+IsEndBy word end = IsEndTo (begun_in LIVE word) word end
 
 abbrev pub IsStepBy : ℕ → Step → Type 0
 IsStepBy word (steps.Ended end) = IsEndBy word end
-IsStepBy word (steps.Again cause) = MayHoldUp (begun_in word) cause
+IsStepBy word (steps.Again cause) = MayHoldUp (begun_in LIVE word) cause
 IsStepBy word steps.Memory = ⊤
 IsStepBy word steps.Worn = ⊤
 
@@ -188,7 +188,7 @@ pub record IsInFlight {P : Type 0} (count : ℕ) (old new : PassView P Op Reply)
 
 -- the first cell of the row that is over, with another caller
 pub record IsCellHeld {P : Type 0} (holder : ℕ) (old new : PassView P Op Reply) : Type 0 where
-  pub over : is_over_in (word_begun new.last) ≡ true
+  pub over : is_over_in LIVE (word_begun new.last) ≡ true
   pub locked : EndsWith (step_at names.Lock (lock_word (cell_marked new)) (holder + 1)) old.log new.log
   pub another : holder ≢ new.number
   pub caller : holder < CALLERS

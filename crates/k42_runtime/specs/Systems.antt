@@ -1,6 +1,8 @@
 -- A system, and its passes between two of their calls.
-use Rattle.std.specs.Prelude.{◌≡◌, ℕ, true, List, [], length, is_some, map, slice_index, slice_index_or}
+use Rattle.std.specs.Prelude.{◌≡◌, ℕ, Bool, true, List, [], length, is_some, map, slice_index, slice_index_or}
 use Rattle.gen_core.specs.Events as graces
+use Rattle.k42_shapes.specs.declared.shape.Shape.{Shape}
+use Rattle.k42_shapes.specs.Shapes.{cells_of, is_dead_tag, shape_at, shared_and_spread}
 use Rattle.k42_kinds.specs.declared.states.AnyState.{AnyState}
 use Rattle.k42_kinds.specs.OneThread.{OneThread}
 use Rattle.k42_kinds.specs.Rows.{Ways}
@@ -16,7 +18,7 @@ use Rattle.k42_stamp.specs.Layouts.{Layouts, layouts_with}
 use Rattle.co_any.specs.Layouts.{ways_of, whole_of, serves_of, admitted_of, act_of, tag_named}
 use Rattle.co_any.specs.declared.layout.AnyLayout.{AnyLayout}
 use Rattle.co_any.specs.declared.part.AnyPart.{AnyPart}
-use Rattle.k42_watch.specs.WatchedRows.{watched_ways, IsWatchedRow, ServesWatched, admitted_watched, watched_act}
+use Rattle.k42_watch.specs.WatchedRows.{Within, within, watched_ways, IsWatchedRow, ServesWatched, admitted_watched, watched_act}
 use Rattle.k42_watch.specs.declared.watch.Layer.TheVariants.{Keep}
 use Rattle.k42_watch.specs.declared.watch.Watch.{Watch}
 use Rattle.k42_watch.specs.declared.watch.WatchPart.{WatchPart}
@@ -46,23 +48,40 @@ SystemPass = PassSeen SystemPart Op Reply
 abbrev pub object_in : SystemLayout → OneThread SystemState Op Reply
 object_in layout = watched_object layout.inner.kind
 
+abbrev pub shapes_in : SystemLayout → List Shape
+shapes_in layout = shared_and_spread
+
 abbrev pub tag_in : SystemLayout → ℕ
 tag_in layout = layout.inner.tag
 
+abbrev pub within_in : SystemLayout → Within
+within_in layout = within shared_and_spread layout.inner.tag
+
+abbrev pub dead_in : SystemLayout → Bool
+dead_in layout = is_dead_tag shared_and_spread layout.inner.tag
+
+-- how many cells of its row have parts
+abbrev pub cells_in : SystemLayout → ℕ → ℕ
+cells_in layout procs = cells_of (shape_at shared_and_spread layout.inner.tag) procs
+
 abbrev pub ways_in : SystemLayout → Ways SystemState SystemPart Op Reply
-ways_in layout = watched_ways seen_asking layout.inner.tag (ways_of layout.inner.kind layout.inner.tag)
+ways_in layout = watched_ways seen_asking (within_in layout) (ways_of layout.inner.kind layout.inner.tag)
 
 abbrev pub whole_in : SystemLayout → ℕ → List SystemPart → Type 0
-whole_in layout procs = IsWatchedRow layout.inner.tag (whole_of layout.inner.kind layout.inner.tag procs)
+whole_in layout procs = IsWatchedRow (within_in layout) (whole_of layout.inner.kind layout.inner.tag procs)
 
 abbrev pub serves_in : SystemLayout → SystemState → Type 0
-serves_in layout = ServesWatched layout.inner.tag (serves_of layout.inner.kind layout.inner.tag)
+serves_in layout = ServesWatched (within_in layout) (serves_of layout.inner.kind layout.inner.tag)
 
 abbrev pub admitted_in : SystemLayout → SystemState → SystemState
-admitted_in layout = admitted_watched layout.inner.tag layout.layer (admitted_of layout.inner.tag)
+admitted_in layout = admitted_watched (dead_in layout) layout.layer (admitted_of layout.inner.tag)
 
 abbrev pub act_in : SystemLayout → Act Op
-act_in layout = watched_act layout.inner.tag layout.layer (act_of layout.inner.tag)
+act_in layout = watched_act (dead_in layout) layout.layer (act_of layout.inner.tag)
+
+-- how many live layouts an object has
+abbrev pub LIVE : ℕ
+LIVE = length shared_and_spread
 
 -- the layouts in which the objects of a plan start, with no layer
 abbrev pub layout_of : ObjectPlan → SystemLayout
@@ -81,12 +100,13 @@ pub record IsPlanned (system : SystemSeen) : Type 0 where
   pub sound : IsSoundPlan system.plan
   pub procs : system.sys.procs ≡ system.plan.procs
   pub layouts : system.sys.layouts ≡ layouts_of system.plan
+  pub shaped : length system.sys.shapes ≡ length system.plan.objects
   pub callers : system.sys.callers ≡ system.plan.callers
   pub keep : system.sys.keep ≡ system.plan.keep
 
 -- the layouts of all kinds, on so many processors and for callers there
 abbrev pub any_with : ℕ → (ℕ → ℕ) → Layouts SystemState SystemLayout SystemPart Op Reply
-any_with = layouts_with object_in tag_in ways_in whole_in serves_in admitted_in act_in
+any_with = layouts_with object_in shapes_in tag_in ways_in whole_in serves_in admitted_in act_in
 
 abbrev pub any_layouts : ℕ → List ℕ → Layouts SystemState SystemLayout SystemPart Op Reply
 any_layouts procs callers = any_with procs (λ c. slice_index_or callers c 0)
@@ -124,7 +144,7 @@ KeepsElse old new =
 -- a pass that has done nothing
 pub record IsFirst (system : SystemSeen) (c home : ℕ) (pass : SystemPass) : Type 0 where
   pub here : IsPassHere system pass
-  pub new : pass.view ≡ new_pass system.plan.procs (length system.plan.objects) c home
+  pub new : pass.view ≡ new_pass system.plan.procs system.sys.shapes c home
   pub rows : pass.row_room ≡ 64
   pub keep : pass.keep ≡ keeping system.plan.keep
 

@@ -1,8 +1,7 @@
 //! The phases of a swap, each as far as it can go without waiting.
-ghost use Rattle.std.specs.Prelude.{◌≡◌, ◌<◌, ◌≤◌, ◌+◌, ◌↔◌, true, length, is_some};
+ghost use Rattle.std.specs.Prelude.{◌≡◌, ◌<◌, ◌≤◌, ◌+◌, ◌↔◌, true, length};
 ghost use Rattle.k42_limits.specs.declared.TheConstants.{LAST_INCARNATION};
 ghost use Rattle.k42_kinds.specs.declared.entry.Act.TheVariants as Act;
-ghost use Rattle.phase_core.specs.Stages.{named_by};
 ghost use Rattle.k42_board.specs.Values.{incarnation_in, layout_in};
 ghost use Rattle.k42_board.specs.Views.{word_begun};
 ghost use Rattle.k42_mediator.specs.Transfers.{IsOfKind};
@@ -13,7 +12,7 @@ ghost use Rattle.k42_runtime.specs.declared.swaps.Stage.TheVariants as Stage;
 ghost use Rattle.k42_runtime.specs.declared.swaps.Step.TheVariants as Step;
 
 use crate::swaps::{Cause, Stage, Step, Swap, Swapped};
-use crate::system::{Pass, System, SystemLayout};
+use crate::system::{Pass, System, SystemLayout, layouts_are_told};
 use k42_board::{incarnation_in, layout_in};
 use k42_kinds::{Act, Answer, Layout, LayoutName, To};
 use k42_limits::{PASS_ENTRIES, PASS_GRACES};
@@ -97,8 +96,9 @@ fn cause_of(held: Held) -> Cause
 impl Swap {
     /// The layout of its hand. A watch and an unwatch keep the tag that its begin has found.
     fn layout(&self, system: &System, pass: &Pass) -> SystemLayout
+        requires ours { IsPassHere system.now pass.now }
         requires there { self.now.object < length system.now.plan.objects }
-        requires under_way { is_some (named_by pass.now.view.visitor.swap) ≡ true }
+        requires moving { IsMoving self.now.object pass.now.view }
         requires found { HasFoundFree pass.now.view }
         ensures kind { IsOfKind object_in system.now.sys.layouts self.now.object result }
         ensures tag { result.inner.tag ≡ tag_to self.now.to (layout_in (word_begun pass.now.view.last)) }
@@ -106,6 +106,9 @@ impl Swap {
         ensures act { act_in result ≡ Act.Swap self.now.to }
         ensures known { result.inner.tag ≤ 2 }
     {
+        layouts_are_told(system, pass, self.object);
+        // A pass that stands between two steps tells how its swap fits together.
+        let _swap = pass.swap();
         let tag = tag_to(self.to, pass.begun_layout());
         Watch {
             inner: system.sys.declared(self.object).inner.with_tag(tag),
@@ -136,6 +139,7 @@ impl Swap {
             self.stage = Stage::Over;
             return Step::Memory;
         }
+        layouts_are_told(system, pass, self.object);
         match begin(&system.sys, pass, self.object) {
             Begun::Begun => {
                 interpose(&system.sys, pass);
@@ -215,6 +219,7 @@ impl Swap {
         requires marking { IsAtStage Stage.Marking (length system.now.plan.objects) self.old pass.old }
         ensures { HasStepped system.now result self.old self.new pass.old pass.new }
     {
+        layouts_are_told(system, pass, self.object);
         match mark(&system.sys, pass, Act::Swap(self.to)) {
             Marked::Held { holder } => Step::Again(Cause::CellHeld { holder }),
             Marked::Marked => self.over(end_over(pass)),

@@ -3,8 +3,8 @@ ghost use Rattle.std.specs.Prelude.{◌≡◌, ◌<◌, ◌≤◌, ◌+◌, IsTr
 ghost use Rattle.k42_limits.specs.declared.TheConstants.{PROCESSORS};
 ghost use Rattle.k42_mediator.specs.Parts.{parts_from, filled};
 ghost use Rattle.k42_board.specs.Calling.{due_in};
-ghost use Rattle.k42_runtime.specs.Stepping.{row_behind, MayStepRow};
-ghost use Rattle.k42_runtime.specs.Systems.{object_in, ways_in, whole_in};
+ghost use Rattle.k42_runtime.specs.Stepping.{row_behind, AreRow, MayStepRow};
+ghost use Rattle.k42_runtime.specs.Systems.{object_in, cells_in, ways_in, whole_in};
 
 use crate::system::{SystemLayout, SystemPart};
 use k42_kinds::{Layout, Op, Reply};
@@ -95,7 +95,7 @@ fn step_behind(
     reply
 }
 
-/// Makes the operation on the parts of a whole row. Without memory they are as they were.
+/// Makes the operation on the parts of a whole row, which the first of its cells have. Without memory they are as they were.
 pub(crate) fn step_row(
     alloc: Global,
     layout: &SystemLayout,
@@ -105,15 +105,17 @@ pub(crate) fn step_row(
 ) -> Result<Reply, Memory>
     requires known { (layout.now.inner.tag ≤ 2) × (procs ≤ PROCESSORS) }
     requires takes { IsTrue ((object_in layout.now).takes op.now) }
-    requires few { length cells.old ≤ procs }
+    requires cells { AreRow procs (cells_in layout.now procs) cells.old }
     requires row { MayStepRow (ways_in layout.now) procs (whole_in layout.now)
-        (parts_from (ways_in layout.now) procs 0 cells.old) op.now }
+        (parts_from (ways_in layout.now) procs 0 (take (cells_in layout.now procs) cells.old)) op.now }
     ensures replied { IfOk result (λ reply. reply ≡ (ways_in layout.now).row_reply
-        (parts_from (ways_in layout.now) procs 0 cells.old) op.now) }
+        (parts_from (ways_in layout.now) procs 0 (take (cells_in layout.now procs) cells.old)) op.now) }
     ensures moved { OnOk result (cells.new ≡ filled ((ways_in layout.now).row_after
-        (parts_from (ways_in layout.now) procs 0 cells.old) op.now) cells.old) }
+        (parts_from (ways_in layout.now) procs 0 (take (cells_in layout.now procs) cells.old)) op.now) cells.old) }
     ensures memory { OnErr result (cells.new ≡ cells.old) }
 {
-    let mut parts = Vec::with_capacity(alloc, cells.len())?;
-    step_behind(alloc, layout, procs, op, cells, &mut parts)
+    let many = layout.shape().cells(procs) as usize;
+    let mut parts = Vec::with_capacity(alloc, many)?;
+    let (own, _) = cells.split_at_mut(many);
+    step_behind(alloc, layout, procs, op, own, &mut parts)
 }

@@ -1,14 +1,16 @@
 //! A system: its table and its plan.
 ghost use Rattle.std.specs.Prelude.{◌≡◌, ◌%◌, ◌<◌, ◌↔◌, true, Some, length, map, slice_get, IfOk};
+ghost use Rattle.k42_shapes.specs.Shapes.{shared_and_spread};
 ghost use Rattle.k42_board.specs.Generating.{active_in, entered_view, left_view};
 ghost use Rattle.k42_board.specs.Log.{last_found, took};
 ghost use Rattle.k42_board.specs.Seen.{IsSamePass};
+ghost use Rattle.k42_board.specs.Views.{live_at, shapes_at};
 ghost use Rattle.k42_board.specs.Words.{exits_word, generation_word};
 ghost use Rattle.k42_board.specs.declared.view.StepName.TheVariants as steps;
 ghost use Rattle.k42_quiesce.specs.Activities.{HasEntered};
 ghost use Rattle.k42_runtime.specs.Calls.{IsAsked};
 ghost use Rattle.k42_runtime.specs.Plans.{kinds_of};
-ghost use Rattle.k42_runtime.specs.Systems.{layout_of, IsPassHere, IsAtWork, IsAtRest, HasStarted};
+ghost use Rattle.k42_runtime.specs.Systems.{LIVE, layout_of, IsPassHere, IsAtWork, IsAtRest, HasStarted};
 
 use crate::plan::{ObjectPlan, Plan};
 use co_any::{AnyLayout, AnyPart};
@@ -66,6 +68,16 @@ fn copied(alloc: Global, homes: &[u32]) -> Result<Vec<u32>, Memory>
     let mut copy = Vec::new(alloc);
     copy.extend_from_slice(homes)?;
     Ok(copy)
+}
+
+/// What a pass was told of an object's layouts is what the declared one tells.
+pub(crate) fn layouts_are_told(system: &System, pass: &Pass, object: u32)
+    requires ours { IsPassHere system.now pass.now }
+    requires there { object < length system.now.plan.objects }
+    ensures shapes { shapes_at pass.now.view object ≡ shared_and_spread }
+    ensures live { live_at pass.now.view object ≡ LIVE }
+{
+    let _declared = system.sys.declared(object);
 }
 
 impl System {

@@ -6,6 +6,7 @@ use Rattle.k42_kinds.specs.declared.operation.Op.TheVariants.{Add, Get, Drain}
 use Rattle.k42_kinds.specs.declared.operation.LayoutName.TheVariants.{Spread}
 use Rattle.k42_kinds.specs.declared.operation.Reply.{Reply}
 use Rattle.k42_kinds.specs.declared.operation.Reply.TheVariants.{Done, Number}
+use Rattle.k42_shapes.specs.Shapes.{shared_and_spread}
 use Rattle.k42_kinds.specs.declared.entry.Act.TheVariants.{Call, Swap}
 use Rattle.k42_kinds.specs.declared.entry.To.TheVariants.{Layout}
 use Rattle.k42_kinds.specs.declared.entry.Answer.TheVariants.{Replied, Swapped}
@@ -32,6 +33,7 @@ parts_after parts _ = parts
 abbrev two : Layouts ℕ (Unit {0}) ℕ Op Reply
 two = record {
   object_of = λ _. counter_object;
+  shapes_of = λ _. shared_and_spread;
   tag_of = λ _. 1;
   ways_of = λ _. record {
     reach = reach_here;

@@ -1,5 +1,5 @@
 -- The entries of an object's rows that fit, in order, are a legal history of the object.
-use Rattle.std.proofs.Common.{◌≡◌, ℕ, suc, ◌<◌, ◌≤◌, true, false, ◌==◌, List, [], ◌∷◌, ◌++◌, length, refl, sym, ap, ◌∙◌, subst, append_assoc, arith}
+use Rattle.std.proofs.Common.{◌≡◌, ℕ, suc, ◌<◌, true, false, List, [], ◌∷◌, ◌++◌, length, refl, sym, ap, ◌∙◌, subst, append_assoc, arith}
 use Rattle.std.proofs.lemmas.Bool.{ne_eqb}
 use Rattle.std.proofs.lemmas.List.{append-nil}
 use Rattle.k42_limits.specs.declared.TheConstants.{LAST_INCARNATION}
@@ -12,7 +12,7 @@ use Rattle.k42_kinds.specs.OneThread.{OneThread}
 use Rattle.k42_kinds.specs.Histories.{is_call, is_carried_out, state_moved, number_of}
 use Rattle.k42_kinds.specs.Legal.{IsAnswerSoFar, IsActSoFar, is_ended_in}
 use Rattle.k42_kinds.proofs.Splits.{EachBehind}
-use Rattle.k42_stamp.specs.Layouts.{Layouts}
+use Rattle.k42_stamp.specs.Layouts.{Layouts, IsLive, is_dead}
 use Rattle.k42_stamp.specs.Chains.{Row, Turn, Chain, parts_of, state_of, past_entries, entries_of}
 use Rattle.k42_stamp.specs.Fits.{IsHandOf, IsRow, IsTurn, ArePast, Fits}
 use Rattle.k42_stamp.specs.Laws.{AreLaws}
@@ -41,15 +41,15 @@ module _ {S L P O R : Type 0} (F : Layouts S L P O R) (laws : AreLaws F) (declar
       (entries_run F laws row.layout is.known o (length past) front row.entries row.start
       (subst (λ (object : OneThread S O R). StandsBehind F laws row.layout is.known o (length past) object front row.start) (sym is.kind) s) is.own is.replied)
 
-  alive_there : (past : List (Turn L P O R)) (row : Row L P O R) (is : IsRow F declared o past row) (front : List (Entry O R)) (parts : List P) → Stands past row is front parts → F.tag_of row.layout ≤ 1 → is_ended_in thread o front ≡ false
+  alive_there : (past : List (Turn L P O R)) (row : Row L P O R) (is : IsRow F declared o past row) (front : List (Entry O R)) (parts : List P) → Stands past row is front parts → IsLive F row.layout → is_ended_in thread o front ≡ false
   alive_there past row is front parts s live =
-      subst (λ (object : OneThread S O R). is_ended_in object o front ≡ (F.tag_of row.layout == 2)) is.kind
+      subst (λ (object : OneThread S O R). is_ended_in object o front ≡ is_dead F row.layout) is.kind
       (ended_by_tag F laws row.layout is.known o (length past) front parts (subst (λ (object : OneThread S O R). StandsBehind F laws row.layout is.known o (length past) object front parts) (sym is.kind) s))
-      ∙ ne_eqb (F.tag_of row.layout) 2 (λ two. absurd (omega arith))
+      ∙ ne_eqb (F.tag_of row.layout) (length (F.shapes_of row.layout)) (λ two. absurd (omega arith))
 
   -- the entry with which the next row begins is that of a legal swap
   hand_legal : (past : List (Turn L P O R)) (row : Row L P O R) (is : IsRow F declared o past row) (front : List (Entry O R)) (parts : List P) (layout : L) (e : Entry O R)
-      → Stands past row is front parts → F.tag_of row.layout ≤ 1 → length past < LAST_INCARNATION → IsHandOf (F.act_of layout) o (suc (length past)) e → IsActSoFar thread front e e.act
+      → Stands past row is front parts → IsLive F row.layout → length past < LAST_INCARNATION → IsHandOf (F.act_of layout) o (suc (length past)) e → IsActSoFar thread front e e.act
   hand_legal past row is front parts layout e s live unspent hand =
       by_answer thread front e e.act (ap is_call hand.act ∙ laws.asks layout) (subst (λ (answer : Answer R). IsAnswerSoFar thread front e answer) (sym hand.answer) (record {
         next = omega (arith, sym s.counted ∙ ap (λ n. number_of n front) (sym hand.object));
@@ -80,7 +80,7 @@ module _ {S L P O R : Type 0} (F : Layouts S L P O R) (laws : AreLaws F) (declar
     pub legal : EachBehind (LegalBehind thread) [] (past_entries past)
     pub stands : Stands past row is (past_entries past) row.start
 
-  pub begun : F.tag_of declared ≤ 1 → (past : List (Turn L P O R)) → ArePast F declared o past → (row : Row L P O R) (is : IsRow F declared o past row) → Begun past row is
+  pub begun : IsLive F declared → (past : List (Turn L P O R)) → ArePast F declared o past → (row : Row L P O R) (is : IsRow F declared o past row) → Begun past row is
   begun live [] turns row is =
       let begins = laws.begins row.layout is.known in
       record {

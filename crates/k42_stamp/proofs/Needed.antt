@@ -8,8 +8,10 @@ use Rattle.k42_kinds.specs.declared.entry.Answer.{Answer}
 use Rattle.k42_kinds.specs.declared.entry.Entry.{Entry}
 use Rattle.k42_kinds.specs.declared.entry.Reach.{Reach}
 use Rattle.k42_kinds.specs.declared.entry.Reach.TheVariants.{One, All}
-use Rattle.k42_kinds.specs.Rows.{cells_of, IsWithin}
-use Rattle.k42_stamp.specs.Layouts.{Layouts}
+use Rattle.k42_shapes.proofs.ShapeLaws.{few_cells}
+use Rattle.k42_kinds.specs.Rows.{IsWithin}
+use Rattle.k42_shapes.specs.Shapes.{cells_of}
+use Rattle.k42_stamp.specs.Layouts.{Layouts, IsKnown, shape_of}
 use Rattle.k42_stamp.specs.Parts.{reached, reach_of, touches, those_at}
 use Rattle.k42_stamp.specs.Chains.{Turn, first_of}
 use Rattle.k42_stamp.specs.Fits.{IsCallOrMark, IsEntryOf, IsAbove, PastLeaves}
@@ -39,19 +41,13 @@ pub needed : (cells : ℕ) (r : Reach) → IsWithin cells r → (c : ℕ) × (c 
 needed cells (One c) h = (c, h, grind (arith, nat_tests))
 needed cells All h = (0, h, refl)
 
-few_cells : (tag procs : ℕ) → 0 < procs → cells_of tag procs ≤ procs
-few_cells tag procs some = elim (eqb_tells tag 1) [
-  | inl h ↦ rw h.0 (omega arith)
-  | inr h ↦ rw h.0 some
-]
-
 wider : (fewer more : ℕ) (r : Reach) → fewer ≤ more → IsWithin fewer r → IsWithin more r
 wider fewer more (One c) le h = omega arith
 wider fewer more All le h = omega arith
 
-module _ {S L P O R : Type 0} (F : Layouts S L P O R) (laws : AreLaws F) (layout : L) (known : F.tag_of layout ≤ 2) where
-  act_within : (number caller : ℕ) (act : Act O) (answer : Answer R) → IsCallOrMark (F.object_of layout) (F.tag_of layout) number act answer → IsWithin F.procs (reached (F.ways_of layout) F.procs act (F.proc_of caller))
-  act_within number caller (Call op) answer served = wider (cells_of (F.tag_of layout) F.procs) F.procs ((F.ways_of layout).reach F.procs op (F.proc_of caller)) (few_cells (F.tag_of layout) F.procs laws.some) (laws.reaches layout (F.proc_of caller) op known (laws.on_one caller) served)
+module _ {S L P O R : Type 0} (F : Layouts S L P O R) (laws : AreLaws F) (layout : L) (known : IsKnown F layout) where
+  act_within : (number caller : ℕ) (act : Act O) (answer : Answer R) → IsCallOrMark (F.object_of layout) (F.shapes_of layout) (F.tag_of layout) number act answer → IsWithin F.procs (reached (F.ways_of layout) F.procs act (F.proc_of caller))
+  act_within number caller (Call op) answer served = wider (cells_of (shape_of F layout) F.procs) F.procs ((F.ways_of layout).reach F.procs op (F.proc_of caller)) (few_cells (shape_of F layout) F.procs laws.some) (laws.reaches layout (F.proc_of caller) op known (laws.on_one caller) served)
   act_within number caller (Swap to) answer served = laws.some
 
   -- what an entry of a row needs is in the row

@@ -6,8 +6,10 @@ use Rattle.k42_kinds.specs.declared.entry.Entry.{Entry}
 use Rattle.k42_kinds.specs.declared.entry.Reach.{Reach}
 use Rattle.k42_kinds.specs.declared.entry.Reach.TheVariants.{One, All}
 use Rattle.k42_kinds.specs.Histories.{is_call}
-use Rattle.k42_kinds.specs.Rows.{Ways, cells_of, made_from, empty_row, part_at}
-use Rattle.k42_stamp.specs.Layouts.{Layouts}
+use Rattle.k42_shapes.specs.declared.shape.Shape.{Shape}
+use Rattle.k42_kinds.specs.Rows.{Ways, made_from, empty_row, part_at}
+use Rattle.k42_shapes.specs.Shapes.{cells_of, shape_at}
+use Rattle.k42_stamp.specs.Layouts.{Layouts, IsLive, shape_of}
 use Rattle.k42_stamp.specs.Parts.{reach_of, act_moves, act_replies, part_steps}
 use Rattle.k42_stamp.specs.Chains.{Turn, Chain, parts_of}
 use Rattle.k42_stamp.specs.Fits.{ArePast, IsTurn, PastLeaves, Fits}
@@ -57,8 +59,13 @@ part_at-made make first (suc many) zero lt = let same : first ≡ first + 0 = om
 part_at-made make first (suc many) (suc cell) lt = let same : suc first + cell ≡ first + suc cell = omega arith in part_at-made make (suc first) many cell (omega arith) ∙ ap (λ n. Some (make n)) same
 
 -- a cell of the first row begins with its empty part
-pub part_at-empty : {S P O R : Type 0} (w : Ways S P O R) (tag procs cell : ℕ) → cell < cells_of tag procs → part_at (empty_row w tag procs) cell ≡ Some (w.empty procs cell)
-part_at-empty w tag procs cell lt = let same : 0 + cell ≡ cell = omega arith in part_at-made (w.empty procs) 0 (cells_of tag procs) cell lt ∙ ap (λ n. Some (w.empty procs n)) same
+-- layouts of one object with one tag have one shape
+pub same_shape : {S L P O R : Type 0} (F : Layouts S L P O R) → AreLaws F → (layout other : L) → F.object_of layout ≡ F.object_of other → F.tag_of layout ≡ F.tag_of other
+    → shape_of F layout ≡ shape_of F other
+same_shape F laws layout other same tags = λ i. shape_at (laws.alike layout other same i) (tags i)
+
+pub part_at-empty : {S P O R : Type 0} (w : Ways S P O R) (shape : Shape) (procs cell : ℕ) → cell < cells_of shape procs → part_at (empty_row w shape procs) cell ≡ Some (w.empty procs cell)
+part_at-empty w shape procs cell lt = let same : 0 + cell ≡ cell = omega arith in part_at-made (w.empty procs) 0 (cells_of shape procs) cell lt ∙ ap (λ n. Some (w.empty procs n)) same
 
 -- a cell that the parts do not reach has none
 pub part_at-beyond : {P : Type 0} (parts : List P) (cell : ℕ) → length parts ≤ cell → part_at parts cell ≡ None
@@ -68,9 +75,9 @@ part_at-beyond (part ∷ parts) (suc cell) beyond = part_at-beyond parts cell (o
 
 -- rows that nothing was drawn at
 pub fresh_chain : {S L P O R : Type 0} → Layouts S L P O R → L → Chain L P O R
-fresh_chain F declared = record { past = []; row = record { layout = declared; start = empty_row (F.ways_of declared) (F.tag_of declared) F.procs; entries = [] } }
+fresh_chain F declared = record { past = []; row = record { layout = declared; start = empty_row (F.ways_of declared) (shape_of F declared) F.procs; entries = [] } }
 
-pub fresh_fits : {S L P O R : Type 0} (F : Layouts S L P O R) (declared : L) (o : ℕ) (histories : ℕ → ℕ → List (Entry O R)) → F.tag_of declared ≤ 1 → ((cell : ℕ) → cell < F.procs → histories 0 cell ≡ []) → Fits F declared o histories (fresh_chain F declared)
+pub fresh_fits : {S L P O R : Type 0} (F : Layouts S L P O R) (declared : L) (o : ℕ) (histories : ℕ → ℕ → List (Entry O R)) → IsLive F declared → ((cell : ℕ) → cell < F.procs → histories 0 cell ≡ []) → Fits F declared o histories (fresh_chain F declared)
 unfolding fresh_chain
 fresh_fits F declared o histories live none = record {
   declared_live = live;
@@ -102,9 +109,9 @@ module _ {S L P O R : Type 0} (F : Layouts S L P O R) (laws : AreLaws F) (declar
   pub parts_whole : F.Whole chain.row.layout F.procs (parts_of F chain.row)
   parts_whole = (chain_stands F laws declared o histories chain fits).whole
 
-  pub parts_sized : length (parts_of F chain.row) ≡ cells_of (F.tag_of chain.row.layout) F.procs
+  pub parts_sized : length (parts_of F chain.row) ≡ cells_of (shape_of F chain.row.layout) F.procs
   parts_sized = (laws.stands chain.row.layout (parts_of F chain.row) fits.row.known parts_whole).sized
 
 -- and those of a row that was handed on
-pub turn_whole : {S L P O R : Type 0} (F : Layouts S L P O R) (laws : AreLaws F) (declared : L) (o : ℕ) (live : F.tag_of declared ≤ 1) (turn : Turn L P O R) (past : List (Turn L P O R)) → IsTurn F declared o past turn → ArePast F declared o past → F.Whole turn.row.layout F.procs (parts_of F turn.row)
+pub turn_whole : {S L P O R : Type 0} (F : Layouts S L P O R) (laws : AreLaws F) (declared : L) (o : ℕ) (live : IsLive F declared) (turn : Turn L P O R) (past : List (Turn L P O R)) → IsTurn F declared o past turn → ArePast F declared o past → F.Whole turn.row.layout F.procs (parts_of F turn.row)
 turn_whole F laws declared o live turn past is turns = (row_runs F laws declared o past turn.row is.row _ (begun F laws declared o live past turns turn.row is.row).stands).stands.whole

@@ -1,5 +1,5 @@
 -- A row's parts stand for the object of one thread, and each entry of a row is legal after those before it.
-use Rattle.std.proofs.Common.{◌≡◌, ℕ, ◌+◌, ◌≤◌, Bool, false, cond, ◌==◌, IsTrue, List, [], ◌∷◌, ◌++◌, Some, refl, sym, ap, ◌∙◌, subst, append_assoc, arith}
+use Rattle.std.proofs.Common.{◌≡◌, ℕ, ◌+◌, Bool, false, cond, IsTrue, List, [], ◌∷◌, ◌++◌, Some, refl, sym, ap, ◌∙◌, subst, append_assoc, arith, length}
 use Rattle.std.specs.List.{AllByRecursion}
 use Rattle.std.proofs.lemmas.Bool.{eq-eqb, ne_eqb}
 use Rattle.std.proofs.lemmas.List.{append-nil}
@@ -17,7 +17,7 @@ use Rattle.k42_kinds.specs.LayoutLaws.{StepsRow}
 use Rattle.k42_kinds.proofs.LongerHistories.{state_in-push, number_of-push}
 use Rattle.k42_kinds.proofs.Splits.{EachBehind}
 use Rattle.k42_stamp.specs.Replays.{replayed, Answered}
-use Rattle.k42_stamp.specs.Layouts.{Layouts}
+use Rattle.k42_stamp.specs.Layouts.{Layouts, IsKnown, is_dead}
 use Rattle.k42_stamp.specs.Parts.{reached, reach_of, act_moves, act_replies, reply_in, part_steps}
 use Rattle.k42_stamp.specs.Fits.{IsMark, IsCallOrMark, IsEntryOf}
 use Rattle.k42_stamp.specs.Laws.{AreLaws}
@@ -42,7 +42,7 @@ state_after_own object o front e own = state_in-push object o front e ∙ rw (eq
 pub number_after_own : {O R : Type 0} (o : ℕ) (front : List (Entry O R)) (e : Entry O R) (b : Bool) → e.object ≡ o → is_carried_out e.answer ≡ b → number_of o (front ++ e ∷ []) ≡ number_of o front + cond b 1 0
 number_after_own o front e b own out = number_of-push o front e ∙ rw (eq-eqb e.object o own, out) refl
 
-module _ {S L P O R : Type 0} (F : Layouts S L P O R) (laws : AreLaws F) (layout : L) (known : F.tag_of layout ≤ 2) (o number : ℕ) where
+module _ {S L P O R : Type 0} (F : Layouts S L P O R) (laws : AreLaws F) (layout : L) (known : IsKnown F layout) (o number : ℕ) where
   -- the row is whole, and stands for what the entries before tell of the object
   pub record StandsBehind (object : OneThread S O R) (front : List (Entry O R)) (parts : List P) : Type 0 where
     pub whole : F.Whole layout F.procs parts
@@ -58,7 +58,7 @@ module _ {S L P O R : Type 0} (F : Layouts S L P O R) (laws : AreLaws F) (layout
     pub stands : StandsBehind here (front ++ e ∷ []) ((part_steps F layout).moves parts e)
 
   -- whether the object is at its end is told by the tag
-  pub ended_by_tag : (front : List (Entry O R)) (parts : List P) → StandsBehind here front parts → is_ended_in here o front ≡ (F.tag_of layout == 2)
+  pub ended_by_tag : (front : List (Entry O R)) (parts : List P) → StandsBehind here front parts → is_ended_in here o front ≡ is_dead F layout
   ended_by_tag front parts s = ap here.is_ended s.state ∙ laws.ends layout ((F.ways_of layout).combine parts) known (laws.stands layout parts known s.whole).served
 
   module _ (front : List (Entry O R)) (e : Entry O R) (parts : List P) (s : StandsBehind here front parts) (own : e.object ≡ o) (named : e.incarnation ≡ number) where
@@ -87,14 +87,14 @@ module _ {S L P O R : Type 0} (F : Layouts S L P O R) (laws : AreLaws F) (layout
           };
         }
 
-    mark_answer : (answer : Answer R) → e.answer ≡ answer → IsMark (F.tag_of layout) number answer → IsAnswerSoFar here front e answer × (is_carried_out e.answer ≡ false)
+    mark_answer : (answer : Answer R) → e.answer ≡ answer → IsMark (F.shapes_of layout) (F.tag_of layout) number answer → IsAnswerSoFar here front e answer × (is_carried_out e.answer ≡ false)
     mark_answer (Replied reply) is mark = absurd mark
     mark_answer (Swapped other) is mark = absurd mark
     mark_answer (Busy other) is mark = absurd mark
     mark_answer (Abandoned other) is mark = absurd mark
     mark_answer Spent is mark = (
       record {
-        alive = ap (λ n. is_ended_in here n front) own ∙ (ended_by_tag front parts s ∙ ne_eqb (F.tag_of layout) 2 (λ two. let low = mark.0 in absurd (omega arith)));
+        alive = ap (λ n. is_ended_in here n front) own ∙ (ended_by_tag front parts s ∙ ne_eqb (F.tag_of layout) (length (F.shapes_of layout)) (λ two. let low = mark.0 in absurd (omega arith)));
         spent = ap (λ n. number_of n front) own ∙ (s.counted ∙ mark.1);
         incarnation = named_before;
       },
@@ -102,7 +102,7 @@ module _ {S L P O R : Type 0} (F : Layouts S L P O R) (laws : AreLaws F) (layout
     )
     mark_answer Gone is mark = (
       record {
-        dead = ap (λ n. is_ended_in here n front) own ∙ (ended_by_tag front parts s ∙ eq-eqb (F.tag_of layout) 2 mark);
+        dead = ap (λ n. is_ended_in here n front) own ∙ (ended_by_tag front parts s ∙ eq-eqb (F.tag_of layout) (length (F.shapes_of layout)) mark);
         incarnation = named_before;
       },
       ap is_carried_out is,
@@ -115,7 +115,7 @@ module _ {S L P O R : Type 0} (F : Layouts S L P O R) (laws : AreLaws F) (layout
       counted = number_after_own o front e false own still ∙ omega (arith, s.counted);
     }
 
-    act_step : (act : Act O) → e.act ≡ act → IsCallOrMark here (F.tag_of layout) number act e.answer
+    act_step : (act : Act O) → e.act ≡ act → IsCallOrMark here (F.shapes_of layout) (F.tag_of layout) number act e.answer
         → act_replies (F.ways_of layout) parts act (reach_of F layout e) ≡ reply_in e.answer → StepsOn front e parts
     act_step (Call op) is takes told =
         call_step op is takes (subst (λ (act : Act O). StepsRow here (F.ways_of layout) (F.Whole layout F.procs) parts op (reached (F.ways_of layout) F.procs act (F.proc_of e.caller))) (sym is)

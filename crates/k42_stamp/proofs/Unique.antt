@@ -1,10 +1,10 @@
 -- The histories determine the entries of a row.
-use Rattle.std.proofs.Common.{◌≡◌, ℕ, ◌<◌, ◌≤◌, List, ◌++◌, sym, ◌∙◌, subst}
+use Rattle.std.proofs.Common.{◌≡◌, ℕ, ◌<◌, List, ◌++◌, sym, ◌∙◌, subst}
 use Rattle.std.specs.List.{AllByRecursion}
 use Rattle.std.proofs.lemmas.List.{append_cancel_left}
 use Rattle.k42_kinds.specs.declared.entry.Entry.{Entry}
 use Rattle.k42_stamp.specs.Orders.{IsBefore, Ordered, In}
-use Rattle.k42_stamp.specs.Layouts.{Layouts}
+use Rattle.k42_stamp.specs.Layouts.{Layouts, IsKnown}
 use Rattle.k42_stamp.specs.Parts.{reach_of, touches, those_at}
 use Rattle.k42_stamp.specs.Fits.{IsEntryOf}
 use Rattle.k42_stamp.specs.Laws.{AreLaws}
@@ -12,7 +12,7 @@ use Rattle.k42_stamp.proofs.Elements.{all_at, in-filter, in-from_filter}
 use Rattle.k42_stamp.proofs.Ordering.{same_entries}
 use Rattle.k42_stamp.proofs.Needed.{needed, entry_within}
 
-module _ {S L P O R : Type 0} (F : Layouts S L P O R) (laws : AreLaws F) (layout : L) (known : F.tag_of layout ≤ 2) (o number : ℕ) (first : List (Entry O R)) (history : ℕ → List (Entry O R)) where
+module _ {S L P O R : Type 0} (F : Layouts S L P O R) (laws : AreLaws F) (layout : L) (known : IsKnown F layout) (o number : ℕ) (first : List (Entry O R)) (history : ℕ → List (Entry O R)) where
   moved_over : (es fs : List (Entry O R)) → AllByRecursion (IsEntryOf F layout o number) es → ((c : ℕ) → c < F.procs → history c ≡ first ++ those_at F layout c es) → ((c : ℕ) → c < F.procs → history c ≡ first ++ those_at F layout c fs) → (e : Entry O R) → In e es → In e fs
   moved_over es fs own left other e i =
       let c = needed F.procs (reach_of F layout e) (entry_within F laws layout known o number e (all_at (IsEntryOf F layout o number) es e own i)) in

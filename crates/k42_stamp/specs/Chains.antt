@@ -3,7 +3,7 @@ use Rattle.std.specs.Prelude.{ℕ, List, [], ◌∷◌, ◌++◌, Option}
 use Rattle.k42_kinds.specs.declared.entry.Entry.{Entry}
 use Rattle.k42_kinds.specs.Rows.{empty_row, part_at}
 use Rattle.k42_stamp.specs.Replays.{replayed}
-use Rattle.k42_stamp.specs.Layouts.{Layouts}
+use Rattle.k42_stamp.specs.Layouts.{Layouts, shape_of}
 use Rattle.k42_stamp.specs.Parts.{part_steps}
 
 -- a row: its layout, the parts with which it began, and its entries in order, but for the one with which it began
@@ -36,7 +36,7 @@ state_of F row = (F.ways_of row.layout).combine (parts_of F row)
 
 -- the parts with which a row of the layout begins after these
 abbrev pub start_of : {S L P O R : Type 0} → Layouts S L P O R → List (Turn L P O R) → L → List P
-start_of F [] layout = empty_row (F.ways_of layout) (F.tag_of layout) F.procs
+start_of F [] layout = empty_row (F.ways_of layout) (shape_of F layout) F.procs
 start_of F (turn ∷ past) layout =
     (F.ways_of layout).imported F.procs (F.admitted layout (state_of F turn.row))
 

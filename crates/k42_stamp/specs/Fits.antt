@@ -1,7 +1,9 @@
 -- When the rows of an object fit its layouts and the histories of its cells.
-use Rattle.std.specs.Prelude.{◌≡◌, ℕ, suc, ◌<◌, ◌≤◌, IsTrue, List, [], ◌∷◌, ◌++◌, length, ⊤}
+use Rattle.std.specs.Prelude.{◌≡◌, ℕ, suc, ◌<◌, IsTrue, List, [], ◌∷◌, ◌++◌, length, ⊤}
 use Rattle.std.specs.List.{AllByRecursion}
 use Rattle.k42_limits.specs.declared.TheConstants.{LAST_INCARNATION}
+use Rattle.k42_shapes.specs.declared.shape.Shape.{Shape}
+use Rattle.k42_shapes.specs.Shapes.{IsLiveTag}
 use Rattle.k42_kinds.specs.declared.entry.Act.{Act}
 use Rattle.k42_kinds.specs.declared.entry.Act.TheVariants.{Call, Swap}
 use Rattle.k42_kinds.specs.declared.entry.Answer.{Answer}
@@ -10,26 +12,26 @@ use Rattle.k42_kinds.specs.declared.entry.Entry.{Entry}
 use Rattle.k42_kinds.specs.OneThread.{OneThread}
 use Rattle.k42_stamp.specs.Orders.{IsBefore, Ordered}
 use Rattle.k42_stamp.specs.Replays.{Answered}
-use Rattle.k42_stamp.specs.Layouts.{Layouts}
+use Rattle.k42_stamp.specs.Layouts.{Layouts, IsKnown, IsLive}
 use Rattle.k42_stamp.specs.Parts.{those_at, part_steps}
 use Rattle.k42_stamp.specs.Chains.{Row, Turn, Chain, start_of, first_of}
 
 -- A swap is told in a row only where it found the object at its last incarnation, or dead.
-abbrev pub IsMark : {R : Type 0} → ℕ → ℕ → Answer R → Type 0
-IsMark tag number Spent = (tag ≤ 1) × (number ≡ LAST_INCARNATION)
-IsMark tag number Gone = tag ≡ 2
-IsMark tag number _ = ⊥
+abbrev pub IsMark : {R : Type 0} → List Shape → ℕ → ℕ → Answer R → Type 0
+IsMark shapes tag number Spent = IsLiveTag shapes tag × (number ≡ LAST_INCARNATION)
+IsMark shapes tag number Gone = tag ≡ length shapes
+IsMark shapes tag number _ = ⊥
 
 -- a call of the object's kind, or such a mark
-abbrev pub IsCallOrMark : {S O R : Type 0} → OneThread S O R → ℕ → ℕ → Act O → Answer R → Type 0
-IsCallOrMark object tag number (Call op) answer = IsTrue (object.takes op)
-IsCallOrMark object tag number (Swap to) answer = IsMark tag number answer
+abbrev pub IsCallOrMark : {S O R : Type 0} → OneThread S O R → List Shape → ℕ → ℕ → Act O → Answer R → Type 0
+IsCallOrMark object shapes tag number (Call op) answer = IsTrue (object.takes op)
+IsCallOrMark object shapes tag number (Swap to) answer = IsMark shapes tag number answer
 
 -- an entry of row number so many of the object, but for the one with which the row begins
 pub record IsEntryOf {S L P O R : Type 0} (F : Layouts S L P O R) (layout : L) (o number : ℕ) (entry : Entry O R) : Type 0 where
   pub object : entry.object ≡ o
   pub incarnation : entry.incarnation ≡ number
-  pub served : IsCallOrMark (F.object_of layout) (F.tag_of layout) number entry.act entry.answer
+  pub served : IsCallOrMark (F.object_of layout) (F.shapes_of layout) (F.tag_of layout) number entry.act entry.answer
 
 -- the entry with which row number so many begins: it tells of the swap by its layout's act
 pub record IsHandOf {O R : Type 0} (asked : Act O) (o number : ℕ) (entry : Entry O R) : Type 0 where
@@ -56,7 +58,7 @@ pub record IsRow
     (row : Row L P O R)
     : Type 0 where
   pub kind : F.object_of row.layout ≡ F.object_of declared
-  pub known : F.tag_of row.layout ≤ 2
+  pub known : IsKnown F row.layout
   pub begun : IsBegun F declared o past row.layout
   pub started : row.start ≡ start_of F past row.layout
   pub own : AllByRecursion (IsEntryOf F row.layout o (length past)) row.entries
@@ -71,7 +73,7 @@ pub record IsTurn
     (turn : Turn L P O R)
     : Type 0 where
   pub row : IsRow F declared o past turn.row
-  pub live : F.tag_of turn.row.layout ≤ 1
+  pub live : IsLive F turn.row.layout
   pub unspent : length past < LAST_INCARNATION
   pub last : AllByRecursion (λ entry. entry.stamp < turn.done.stamp) turn.row.entries
   pub higher : IsAbove past turn.done
@@ -100,7 +102,7 @@ pub record Fits
     {S L P O R : Type 0} (F : Layouts S L P O R) (declared : L) (o : ℕ)
     (histories : ℕ → ℕ → List (Entry O R)) (chain : Chain L P O R)
     : Type 0 where
-  pub declared_live : F.tag_of declared ≤ 1
+  pub declared_live : IsLive F declared
   pub past : ArePast F declared o chain.past
   pub row : IsRow F declared o chain.past chain.row
   pub past_left : PastLeaves F histories chain.past

@@ -1,9 +1,9 @@
 -- The next row of an object.
-use Rattle.std.specs.Prelude.{◌≡◌, ℕ, suc, ◌<◌, ◌≤◌, ◌==◌, if◌then◌else◌, List, [], ◌∷◌, length}
+use Rattle.std.specs.Prelude.{◌≡◌, ℕ, suc, ◌<◌, ◌==◌, if◌then◌else◌, List, [], ◌∷◌, length}
 use Rattle.std.specs.List.{AllByRecursion}
 use Rattle.k42_limits.specs.declared.TheConstants.{LAST_INCARNATION}
 use Rattle.k42_kinds.specs.declared.entry.Entry.{Entry}
-use Rattle.k42_stamp.specs.Layouts.{Layouts}
+use Rattle.k42_stamp.specs.Layouts.{Layouts, IsKnown, IsLive}
 use Rattle.k42_stamp.specs.Chains.{Chain, start_of}
 use Rattle.k42_stamp.specs.Fits.{IsHandOf}
 use Rattle.k42_stamp.specs.Draws.{IsLater}
@@ -15,12 +15,12 @@ pub record IsHand
     (chain : Chain L P O R) (layout : L) (entry : Entry O R)
     : Type 0 where
   pub kind : F.object_of layout ≡ F.object_of declared
-  pub known : F.tag_of layout ≤ 2
+  pub known : IsKnown F layout
   pub told : IsHandOf (F.act_of layout) o (suc (length chain.past)) entry
   pub later :
       (cell : ℕ) → cell < F.procs
       → AllByRecursion (IsLater entry) (histories (length chain.past) cell)
-  pub live : F.tag_of chain.row.layout ≤ 1
+  pub live : IsLive F chain.row.layout
   pub unspent : length chain.past < LAST_INCARNATION
 
 -- the rows with the next one, which has no entry but the one with which it begins

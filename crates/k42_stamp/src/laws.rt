@@ -18,7 +18,7 @@ use k42_kinds::Layout;
 pub fn draw_keeps<L: Layout>(procs: u32)
     requires { 0 < procs }
     ensures { (proc_of : ℕ → ℕ) → ((caller : ℕ) → proc_of caller < procs) →
-        let F = layouts_with L.object L.tag_of L.ways L.whole L.serves L.admitted L.act_of procs proc_of in
+        let F = layouts_with L.object L.shapes L.tag_of L.ways L.whole L.serves L.admitted L.act_of procs proc_of in
         (declared : L) (o : ℕ) (histories : ℕ → ℕ → List (Entry L.Op L.Reply))
         (chain : Chain L L.Part L.Op L.Reply)
         (entry : Entry L.Op L.Reply) → Fits F declared o histories chain →
@@ -31,7 +31,7 @@ pub fn draw_keeps<L: Layout>(procs: u32)
 pub fn hand_begins<L: Layout>(procs: u32)
     requires { 0 < procs }
     ensures { (proc_of : ℕ → ℕ) → ((caller : ℕ) → proc_of caller < procs) →
-        let F = layouts_with L.object L.tag_of L.ways L.whole L.serves L.admitted L.act_of procs proc_of in
+        let F = layouts_with L.object L.shapes L.tag_of L.ways L.whole L.serves L.admitted L.act_of procs proc_of in
         (declared : L) (o : ℕ) (histories : ℕ → ℕ → List (Entry L.Op L.Reply))
         (chain : Chain L L.Part L.Op L.Reply) (layout : L)
         (entry : Entry L.Op L.Reply) → Fits F declared o histories chain →
@@ -65,7 +65,7 @@ pub fn sections_merge_to_the_whole<O, R>()
 pub fn merged_is_legal<L: Layout>(procs: u32)
     requires { 0 < procs }
     ensures { (proc_of : ℕ → ℕ) → ((caller : ℕ) → proc_of caller < procs) →
-        let F = layouts_with L.object L.tag_of L.ways L.whole L.serves L.admitted L.act_of procs proc_of in
+        let F = layouts_with L.object L.shapes L.tag_of L.ways L.whole L.serves L.admitted L.act_of procs proc_of in
         (declarations : List L) (histories : ℕ → ℕ → ℕ → List (Entry L.Op L.Reply))
         (chains : List (Chain L L.Part L.Op L.Reply))
         (lists : List (List (Entry L.Op L.Reply))) (merged : List (Entry L.Op L.Reply))

@@ -1,7 +1,9 @@
 -- The handler of a miss, from one step to the next.
-use Rattle.std.proofs.Common.{◌≡◌, ℕ, ◌<◌, Bool, true, false, not, cond, eqb, List, [], ◌∷◌, ◌++◌, Some, refl, sym, ap, ◌∙◌, subst}
+use Rattle.std.proofs.Common.{◌≡◌, ℕ, ◌<◌, Bool, true, false, not, cond, eqb, List, [], ◌∷◌, ◌++◌, Some, get_or, refl, sym, ap, ◌∙◌, subst}
 use Rattle.std.specs.List.{filter}
 use Rattle.std.proofs.lemmas.Bool.{eq-eqb}
+use Rattle.k42_shapes.specs.declared.shape.Shape.{Shape}
+use Rattle.k42_shapes.specs.Shapes.{cell_called, shape_at}
 use Rattle.phase_core.specs.Effects.{root_of}
 use Rattle.phase_core.specs.Stages.{row_of}
 use Rattle.phase_core.specs.State.{empty_entry}
@@ -18,6 +20,7 @@ use Rattle.k42_board.specs.Steps.{Always}
 use Rattle.k42_board.specs.Tabling.{RootFound, rooted_view, installed_view}
 use Rattle.k42_board.specs.Taking.{locked_view}
 use Rattle.k42_board.specs.Values.{layout_in, incarnation_in, local_value}
+use Rattle.k42_board.specs.Views.{shapes_at}
 use Rattle.k42_board.specs.Words.{local_word, lock_word, object_word}
 use Rattle.k42_board.specs.declared.view.PassView.{PassView}
 use Rattle.k42_board.specs.declared.view.StepName.TheVariants as steps
@@ -41,20 +44,20 @@ locked_back x n none = go x.held refl none where
 
 -- a try that has left its cell again: of which row and at which place the cell is, and what the pass knows
 pub record IsTried {P O R : Type 0} (o root row place : ℕ) (v x : PassView P O R) : Type 0 where
-  pub facts : RootFound v root
+  pub facts : RootFound o v root
   pub row_is : row ≡ row_of v.visitor.place
-  pub place_is : place ≡ place_named (rooted_view root v)
+  pub place_is : place ≡ place_named o (rooted_view root v)
   pub view : x ≡ tried_view o root true v
 
-pub tried_at : {P O R : Type 0} (o root row tag home place n holder : ℕ) (v u w x : PassView P O R) → RootFound v root
+pub tried_at : {P O R : Type 0} (o root row home place n holder : ℕ) (shape : Shape) (v u w x : PassView P O R) → RootFound o v root
     → u ≡ took steps.LoadRoot (object_word o) root (rooted_view root v)
-    → row ≡ incarnation_in root → tag ≡ layout_in root → home ≡ u.turn.proc → place ≡ root_of tag home → n ≡ cell_of o row place
+    → row ≡ incarnation_in root → shape ≡ shape_at (shapes_at v o) (layout_in root) → home ≡ u.turn.proc → place ≡ cell_called shape home → n ≡ cell_of o row place
     → w ≡ took steps.Lock (lock_word n) holder (locked_view n holder u) → holder ≡ 0 → holds_none v.taker.held ≡ true → x ≡ handled_view n true w
     → IsTried o root row place v x
-tried_at {O} {R} o root row tag home place n holder v u w x facts rooted row_is tag_is home_is place_is cell_is locked none free handled =
+tried_at {O} {R} o root row home place n holder shape v u w x facts rooted row_is shape_is home_is place_is cell_is locked none free handled =
     let row_there : row ≡ row_of v.visitor.place = row_is ∙ facts.row in
     let home_there : home ≡ v.turn.proc = home_is ∙ ap (λ (z : PassView _ O R). z.turn.proc) rooted in
-    let named : place ≡ place_named (rooted_view root v) = place_is ∙ (λ k. root_of (tag_is k) (home_there k)) in
+    let named : place ≡ place_named o (rooted_view root v) = place_is ∙ (λ k. cell_called (shape_is k) (home_there k)) in
     let cell : n ≡ tried_cell o root v = cell_is ∙ (λ k. cell_of o (row_there k) (named k)) in
     record {
       facts = facts;
@@ -98,7 +101,9 @@ module _ {S L P O R : Type 0} (F : Layouts S L P O R) (declared : List L) (id o 
         let direct : (installed_view o found u).visitor.place ≡ Direct o (row_of u.visitor.place) = rw here refl in
         let layout : (installed_view o found u).layout ≡ Some (layout_in root) = rw here refl in
         let same_home : (installed_view o found u).turn.proc ≡ u.turn.proc = rw here refl in
+        let same_shapes : (installed_view o found u).shapes ≡ u.shapes = rw here refl in
+        let told : w.shapes ≡ u.shapes = ap (λ (z : PassView P O R). z.shapes) is ∙ same_shapes in
         let stays : w.turn.proc ≡ u.turn.proc = ap (λ (z : PassView P O R). z.turn.proc) is ∙ same_home in
         direct_served F declared present opened id o (row_of u.visitor.place) (layout_in root) place w (subst (λ p. p < F.procs) (sym stays) home)
         (ap (λ (z : PassView P O R). z.visitor.place) is ∙ direct) (ap (λ (z : PassView P O R). z.layout) is ∙ layout)
-        (tried.place_is ∙ (λ k. root_of (layout_in root) (sym stays k)))
+        (tried.place_is ∙ (λ k. root_of (get_or (sym told k) o []) (layout_in root) (sym stays k)))

@@ -48,6 +48,7 @@ ours_still {O} {R} sys o old now waits ours = record {
   proc = subst (λ p. p < sys.procs) (sym (ap (λ (x : PassView _ O R). x.turn.proc) waits.there)) ours.proc;
   waits = ap (λ (x : PassView _ O R). length x.turn.waits) waits.there ∙ ours.waits;
   objects = ap (λ (x : PassView _ O R). length x.visitor.noted) waits.there ∙ ours.objects;
+  shapes = ap (λ (x : PassView _ O R). x.shapes) waits.there ∙ ours.shapes;
   spans = ap (λ (x : PassView _ O R). length x.visitor.freeing) waits.there ∙ ours.spans;
   queue = waits.same.queue ∙ ours.queue;
   keep = (λ i. (waits.same.keep i).what) ∙ ours.keep;

@@ -1,8 +1,8 @@
 -- The cell of a representative.
-use Rattle.std.specs.Prelude.{◌≡◌, ℕ, ◌<◌, ◌≤◌, ◌++◌, Bool, List, Some, slice_get}
-use Rattle.k42_kinds.specs.Rows.{cells_of}
+use Rattle.std.specs.Prelude.{◌≡◌, ℕ, ◌<◌, ◌++◌, Bool, List, Some, slice_get}
+use Rattle.k42_shapes.specs.Shapes.{cells_of}
 use Rattle.phase_core.specs.Stages.{IsInside}
-use Rattle.k42_stamp.specs.Layouts.{Layouts}
+use Rattle.k42_stamp.specs.Layouts.{Layouts, IsKnown, shape_of}
 use Rattle.k42_joined.specs.Numbers.{cell_of}
 use Rattle.k42_board.specs.Log.{steps_through}
 use Rattle.k42_board.specs.Taking.{unlocked_view}
@@ -20,8 +20,8 @@ pub record IsOfItsRow
   pub declares : slice_get declared object ≡ Some declaration
   pub kind : F.object_of layout ≡ F.object_of declaration
   pub learned : v.layout ≡ Some (F.tag_of layout)
-  pub known : F.tag_of layout ≤ 2
-  pub there : place < cells_of (F.tag_of layout) F.procs
+  pub known : IsKnown F layout
+  pub there : place < cells_of (shape_of F layout) F.procs
   pub few : place < F.procs
 
 -- the pass that has left the cell again, with a part or without

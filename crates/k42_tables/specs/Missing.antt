@@ -12,6 +12,7 @@ use Rattle.k42_board.specs.Protocol as protocol
 use Rattle.k42_board.specs.Stepping.{Takes}
 use Rattle.k42_board.specs.Tabling.{RootFound, ended_view, layout_learned, rooted_view}
 use Rattle.k42_board.specs.Values.{layout_in, local_value}
+use Rattle.k42_board.specs.Views.{shapes_at}
 use Rattle.k42_board.specs.Words.{local_word, lock_word, object_word}
 use Rattle.k42_board.specs.declared.view.PassView.{PassView}
 use Rattle.k42_board.specs.declared.view.StepName.TheVariants as steps
@@ -26,11 +27,11 @@ pub record MayMiss {P O R : Type 0} (objects o : ℕ) (v : PassView P O R) : Typ
   pub free : holds_none v.taker.held ≡ true
 
 -- the place that the root of a layout names for its processor, and the cell there, in the row that it missed
-abbrev pub place_named : {P O R : Type 0} → PassView P O R → ℕ
-place_named v = root_of (layout_learned v) v.turn.proc
+abbrev pub place_named : {P O R : Type 0} → ℕ → PassView P O R → ℕ
+place_named o v = root_of (shapes_at v o) (layout_learned v) v.turn.proc
 
 abbrev pub cell_named : {P O R : Type 0} → ℕ → PassView P O R → ℕ
-cell_named o v = cell_of o (row_of v.visitor.place) (place_named v)
+cell_named o v = cell_of o (row_of v.visitor.place) (place_named o v)
 
 -- what an install answers by the word that it found: it has installed the cell where the entry of this row was empty
 abbrev pub filled_in : ℕ → ℕ → ℕ → Filled
@@ -68,12 +69,12 @@ module _ {S L P O R : Type 0} (F : Layouts S L P O R) (declared : List L) (id : 
   -- where it found the empty entry, and inside no call where it found another word.
   pub record HasFilled (o : ℕ) (old new : PassView P O R) (answer : Filled) : Type 0 where
     pub root : ℕ
-    pub rooted : RootFound old root
+    pub rooted : RootFound o old root
     pub found : ℕ
     pub installed :
-        Takes F declared (protocol.install o (place_named (rooted_view root old))) id (tried_view o root true old) found new
+        Takes F declared (protocol.install o (place_named o (rooted_view root old))) id (tried_view o root true old) found new
     pub answered :
-        answer ≡ filled_in (row_of old.visitor.place) (place_named (rooted_view root old)) found
+        answer ≡ filled_in (row_of old.visitor.place) (place_named o (rooted_view root old)) found
 
   -- the same after tries that found the lock with others
   pub record HasFilledAtLast (o : ℕ) (old new : PassView P O R) (answer : Filled) : Type 0 where
@@ -83,7 +84,7 @@ module _ {S L P O R : Type 0} (F : Layouts S L P O R) (declared : List L) (id : 
 -- it has found the lock with this caller
 pub record IsHeldUp {P O R : Type 0} (o : ℕ) (old new : PassView P O R) (holder : ℕ) : Type 0 where
   pub root : ℕ
-  pub rooted : RootFound old root
+  pub rooted : RootFound o old root
   pub another : holder ≢ old.number
   pub caller : holder < CALLERS
   pub knows : new ≡ record old { layout = Some (layout_in root); log = steps_tried o root (holder + 1) old }
@@ -91,7 +92,7 @@ pub record IsHeldUp {P O R : Type 0} (o : ℕ) (old new : PassView P O R) (holde
 -- and has ended its call
 pub record HasFoundHeld {P O R : Type 0} (o : ℕ) (old new : PassView P O R) (holder : ℕ) : Type 0 where
   pub root : ℕ
-  pub rooted : RootFound old root
+  pub rooted : RootFound o old root
   pub another : holder ≢ old.number
   pub caller : holder < CALLERS
   pub ended : ℕ
@@ -103,7 +104,7 @@ pub record HasFoundHeld {P O R : Type 0} (o : ℕ) (old new : PassView P O R) (h
 -- it has left the cell without a part, and has ended its call: it has installed nothing
 pub record HasGivenUp {P O R : Type 0} (o : ℕ) (old new : PassView P O R) : Type 0 where
   pub root : ℕ
-  pub rooted : RootFound old root
+  pub rooted : RootFound o old root
   pub ended : ℕ
   pub knows :
       new

@@ -14,7 +14,7 @@ use Rattle.k42_board.specs.declared.view.PassView.{PassView}
 pub record IsServed {L P O R : Type 0} (o cell : ℕ) (v : PassView P O R) (s : Joined L O R) : Type 0 where
   pub inside : IsInside v.visitor.place o (incarnation s o)
   pub learned : v.layout ≡ Some (object s o).layout
-  pub named : cell ≡ root_of (object s o).layout v.turn.proc
+  pub named : cell ≡ root_of (object s o).shapes (object s o).layout v.turn.proc
   pub is_open : IsOpenRow s o (incarnation s o) cell
 
 -- its call is a direct or a tracked one, and it holds no cell

@@ -1,5 +1,6 @@
 //! Representatives, which are made on first use.
 ghost use Rattle.std.specs.Prelude.{◌≡◌, ◌<◌, ◌≤◌, true, false, Some, None, unwrap_or, OnOk, OnErr};
+ghost use Rattle.k42_shapes.specs.Shapes.{IsKnownTag};
 ghost use Rattle.k42_limits.specs.declared.TheConstants.{PROCESSORS};
 ghost use Rattle.k42_board.specs.Seen.{IsPassOf, IsSamePass};
 ghost use Rattle.k42_board.specs.Stepping.{layouts_in};
@@ -19,7 +20,7 @@ fn fill_part<L: Layout>(
     procs: u32,
     content: &mut Cell<L>,
 ) -> Result<(), Memory>
-    requires known { (L.tag_of layout.now ≤ 2) × (place < procs) × (procs ≤ PROCESSORS) }
+    requires known { IsKnownTag (L.shapes layout.now) (L.tag_of layout.now) × (place < procs) × (procs ≤ PROCESSORS) }
     ensures same { content.new ≡ record content.old { part = content.new.part } }
     ensures ok { OnOk result (content.new.part ≡ Some (unwrap_or content.old.part ((L.ways layout.now).empty procs place))) }
     ensures memory { OnErr result ((content.old.part ≡ None) × (content.new.part ≡ None)) }

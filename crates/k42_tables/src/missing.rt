@@ -9,7 +9,7 @@ ghost use Rattle.k42_tables.specs.Serving.{IsServed};
 use crate::answers::{Filled, Tried};
 use crate::filling::represent;
 use crate::laws::cells_inside_are_open;
-use crate::roots::cell_named;
+use crate::roots::Root;
 use crossbeam_utils::Backoff;
 use k42_board::{cell_number, empty_word, incarnation_in, layout_in};
 use k42_kinds::Layout;
@@ -51,7 +51,8 @@ fn try_fill<L: Layout>(
     let _procs = sys.procs();
     let word = root_step(sys, pass, object);
     let (row, tag) = (incarnation_in(word), layout_in(word));
-    let place = cell_named(tag, pass.processor());
+    let layout = sys.declared(object).with_tag(tag);
+    let place = layout.shape().cell_for(pass.processor());
     let cell = cell_number(object, row, place);
     let holder = lock(sys, pass, cell);
     if holder > 0 {
@@ -59,7 +60,6 @@ fn try_fill<L: Layout>(
             holder: holder as u32 - 1,
         });
     }
-    let layout = sys.declared(object).with_tag(tag);
     let Ok(()) = represent(alloc, sys, pass, cell, place, &layout) else {
         end_call(sys, pass);
         return Err(Memory);

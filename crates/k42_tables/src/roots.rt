@@ -1,8 +1,10 @@
 //! Roots, which decide at which cell a processor is served.
-ghost use Rattle.std.specs.Prelude.{◌≡◌, ◌<◌, ◌≤◌, ℕ};
-ghost use Rattle.k42_kinds.specs.Rows.{cells_of};
-ghost use Rattle.phase_core.specs.Effects.{root_of};
-ghost use Rattle.k42_tables.specs.RootLaws.{shared_serves};
+ghost use Rattle.std.specs.Prelude.{◌≡◌, ◌<◌, ℕ};
+ghost use Rattle.k42_shapes.specs.Shapes.{cells_of, cell_called};
+ghost use Rattle.k42_shapes.specs.declared.shape.Shape.TheVariants as shapes;
+ghost use Rattle.k42_tables.specs.RootLaws.{shared_serves, shape_serves};
+
+use k42_shapes::Shape;
 
 pub trait Root {
     /// The cell for a processor, and how many cells so many processors have.
@@ -29,9 +31,9 @@ pub struct SharedRoot;
 pub struct SpreadRoot;
 
 impl Root for SharedRoot {
-    ghost named = { λ _ proc. root_of 0 proc };
+    ghost named = { λ _ proc. cell_called shapes.One proc };
 
-    ghost many = { λ _ procs. cells_of 0 procs };
+    ghost many = { λ _ procs. cells_of shapes.One procs };
 
     fn cell_for(&self, _proc: u32) -> u32 {
         0
@@ -45,9 +47,9 @@ impl Root for SharedRoot {
 }
 
 impl Root for SpreadRoot {
-    ghost named = { λ _ proc. root_of 1 proc };
+    ghost named = { λ _ proc. cell_called shapes.Each proc };
 
-    ghost many = { λ _ procs. cells_of 1 procs };
+    ghost many = { λ _ procs. cells_of shapes.Each procs };
 
     fn cell_for(&self, proc: u32) -> u32 {
         proc
@@ -60,13 +62,19 @@ impl Root for SpreadRoot {
     ghost serves = { λ root proc procs there. there };
 }
 
-/// The cell that the root of a layout names for a processor. A dead object is kept as a shared one.
-pub(crate) fn cell_named(layout: u32, proc: u32) -> u32
-    ensures { result ≡ root_of layout proc }
-{
-    if layout == 1 {
-        SpreadRoot.cell_for(proc)
-    } else {
-        SharedRoot.cell_for(proc)
+/// The root of a layout is its shape.
+impl Root for Shape {
+    ghost named = { λ shape proc. cell_called shape proc };
+
+    ghost many = { λ shape procs. cells_of shape procs };
+
+    fn cell_for(&self, processor: u32) -> u32 {
+        self.cell_called(processor)
     }
+
+    fn cells(&self, procs: u32) -> u32 {
+        Shape::cells(*self, procs)
+    }
+
+    ghost serves = { λ shape proc procs there. shape_serves shape proc procs there };
 }

@@ -9,7 +9,7 @@ use Rattle.k42_kinds.specs.OneThread.{OneThread}
 use Rattle.k42_kinds.specs.Rows.{Ways, changed_at}
 use Rattle.k42_kinds.specs.LayoutLaws.{StepsRow}
 use Rattle.k42_kinds.specs.Watched.{Asking, counted}
-use Rattle.k42_watch.specs.WatchedRows.{inners, seens, rejoined, watched_ways}
+use Rattle.k42_watch.specs.WatchedRows.{Within, inners, seens, rejoined, watched_ways}
 use Rattle.k42_watch.specs.CountLaws.{rejoined-apart}
 use Rattle.k42_watch.specs.declared.watch.WatchPart.{WatchPart}
 
@@ -21,10 +21,10 @@ still_long object ways Whole cells old new op (Ok reply) sized whole steps moved
 still_long object ways Whole cells old new op (Err memory) sized whole steps moved same = ap length same
 
 -- The row put together again: where the step was made it is the one that is due, and else as it was.
-module _ {S P O R : Type 0} (asking : Asking O R) (ways : Ways S P O R) (tag : ℕ) (row joined : List (WatchPart P)) (op : O) (apart within : List P) (kept seen : List (Option ℕ)) (made : Bool)
+module _ {S P O R : Type 0} (asking : Asking O R) (ways : Ways S P O R) (known : Within) (row joined : List (WatchPart P)) (op : O) (apart within : List P) (kept seen : List (Option ℕ)) (made : Bool)
     (apart_is : apart ≡ inners row) (kept_is : kept ≡ seens row) (called : seen ≡ (if made then changed_at counted kept 0 else kept)) (joins : joined ≡ rejoined within seen) where
   pub stepped_row : (result : Result R Memory) → asking.asks op ≡ false → made ≡ is_ok result
-      → OnOk result (within ≡ ways.row_after apart op) → OnOk result (joined ≡ (watched_ways asking tag ways).row_after row op)
+      → OnOk result (within ≡ ways.row_after apart op) → OnOk result (joined ≡ (watched_ways asking known ways).row_after row op)
   stepped_row (Ok reply) not is moved =
       let stepped : within ≡ ways.row_after (inners row) op = moved ∙ ap (λ own. ways.row_after own op) apart_is in
       let counts : seen ≡ changed_at counted (seens row) 0 = called ∙ ap (λ (b : Bool). if b then changed_at counted kept 0 else kept) is ∙ ap (λ ones. changed_at counted ones 0) kept_is in

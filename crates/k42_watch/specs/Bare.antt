@@ -1,5 +1,5 @@
 -- Layouts that know of no layer: what is asked of them and of their objects.
-use Rattle.std.specs.Prelude.{◌≡◌, ◌≢◌, ℕ, ◌==◌, ◌⊎◌, true, false, None}
+use Rattle.std.specs.Prelude.{◌≡◌, ◌≢◌, ◌⊎◌, Bool, true, false, None}
 use Rattle.k42_kinds.specs.declared.operation.LayoutName.{LayoutName}
 use Rattle.k42_kinds.specs.declared.entry.Act.{Act}
 use Rattle.k42_kinds.specs.declared.entry.Act.TheVariants.{Swap}
@@ -20,15 +20,15 @@ abbrev pub KeepsState : {S O R : Type 0} → OneThread S O R → Type 0
 KeepsState {S} object = (state : S) (to : To) → to ≢ Dead → object.swapped state to ≡ state
 
 -- a live layout is asked for by its name
-pub record AsksForName {O : Type 0} (tag : ℕ) (asked : Act O) : Type 0 where
-  pub live : (tag == 2) ≡ false
+pub record AsksForName {O : Type 0} (dead : Bool) (asked : Act O) : Type 0 where
+  pub live : dead ≡ false
   pub name : LayoutName
   pub act : asked ≡ Swap (Layout name)
 
 -- and the dead one by a destroy
-pub record AsksForEnd {O : Type 0} (tag : ℕ) (asked : Act O) : Type 0 where
-  pub dead : (tag == 2) ≡ true
+pub record AsksForEnd {O : Type 0} (dead : Bool) (asked : Act O) : Type 0 where
+  pub ended : dead ≡ true
   pub act : asked ≡ Swap Dead
 
-abbrev pub AsksByTag : {O : Type 0} → ℕ → Act O → Type 0
-AsksByTag tag asked = AsksForName tag asked ⊎ AsksForEnd tag asked
+abbrev pub AsksByTag : {O : Type 0} → Bool → Act O → Type 0
+AsksByTag dead asked = AsksForName dead asked ⊎ AsksForEnd dead asked

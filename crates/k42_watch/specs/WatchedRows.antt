@@ -1,6 +1,9 @@
 -- Rows of parts that count, and what a watched layout does with them.
-use Rattle.std.specs.Prelude.{◌≡◌, ℕ, ◌+◌, ◌%◌, ◌^◌, ◌<◌, ◌==◌, ◌⊎◌, if◌then◌else◌, List, [], ◌∷◌, map, Option, Some, None}
+use Rattle.std.specs.Prelude.{◌≡◌, ℕ, ◌+◌, ◌%◌, ◌^◌, ◌<◌, ◌⊎◌, Bool, true, if◌then◌else◌, List, [], ◌∷◌, map, Option, Some, None}
 use Rattle.std.specs.List.{AllByRecursion}
+use Rattle.k42_shapes.specs.declared.shape.Shape.{Shape}
+use Rattle.k42_shapes.specs.declared.shape.Shape.TheVariants as shapes
+use Rattle.k42_shapes.specs.Shapes.{is_dead_tag, shape_at}
 use Rattle.k42_kinds.specs.Rows.{Ways, changed_at}
 use Rattle.k42_kinds.specs.Watched.{Asking, counted, watch_state}
 use Rattle.k42_kinds.specs.declared.entry.Reach.{Reach}
@@ -67,40 +70,50 @@ abbrev pub shared_out : {P : Type 0} → Option ℕ → List P → List (WatchPa
 shared_out seen [] = []
 shared_out seen (part ∷ parts) = watch_part part seen ∷ shared_out (from_zero seen) parts
 
--- the count of a spread object is asked at all cells
-abbrev pub asking_reach : ℕ → Reach
-asking_reach tag = if tag == 1 then All else One 0
+-- what a layer knows of the layout within
+pub record Within : Type 0 where
+  pub shape : Shape
+  pub dead : Bool
+
+abbrev pub within : List Shape → ℕ → Within
+within shapes tag = record { shape = shape_at shapes tag; dead = is_dead_tag shapes tag }
+
+-- the count is asked at all cells where there may be several
+abbrev pub asking_reach : Shape → Reach
+asking_reach shapes.One = One 0
+asking_reach shapes.Each = All
+asking_reach (shapes.Groups width) = All
 
 -- The layer tells the count by itself to who asks for it. It counts every other operation at the cell that
 -- it needs, and an operation at all cells at the first.
-abbrev pub watched_ways : {S P O R : Type 0} → Asking O R → ℕ → Ways S P O R → Ways (WatchState S) (WatchPart P) O R
-watched_ways asking tag ways = record {
-  reach = λ procs op proc. if asking.asks op then asking_reach tag else ways.reach procs op proc;
+abbrev pub watched_ways : {S P O R : Type 0} → Asking O R → Within → Ways S P O R → Ways (WatchState S) (WatchPart P) O R
+watched_ways asking known ways = record {
+  reach = λ procs op proc. if asking.asks op then asking_reach known.shape else ways.reach procs op proc;
   empty = λ procs cell. watch_part (ways.empty procs cell) None;
   part_after = λ part op.
       if asking.asks op then part else watch_part (ways.part_after part.inner op) (counted part.seen);
   part_reply = λ part op.
-      if asking.asks op then asking.tells (tag == 2) part.seen else ways.part_reply part.inner op;
+      if asking.asks op then asking.tells known.dead part.seen else ways.part_reply part.inner op;
   row_after = λ row op.
       if asking.asks op then row
       else rejoined (ways.row_after (inners row) op) (changed_at counted (seens row) 0);
   row_reply = λ row op.
-      if asking.asks op then asking.tells (tag == 2) (count_of (seens row)) else ways.row_reply (inners row) op;
+      if asking.asks op then asking.tells known.dead (count_of (seens row)) else ways.row_reply (inners row) op;
   combine = λ row. watch_state (ways.combine (inners row)) (count_of (seens row));
   imported = λ procs state. shared_out state.seen (ways.imported procs state.inner);
 }
 
 -- within they are a row of the layout; they count alike, and in a dead row not
-pub record IsWatchedRow {P : Type 0} (tag : ℕ) (Whole : List P → Type 0) (row : List (WatchPart P)) : Type 0 where
+pub record IsWatchedRow {P : Type 0} (known : Within) (Whole : List P → Type 0) (row : List (WatchPart P)) : Type 0 where
   pub inner : Whole (inners row)
   pub alike : AreAlike (seens row)
   pub small : AllByRecursion IsSmall (seens row)
-  pub dead : tag ≡ 2 → AllByRecursion CountsNot (seens row)
+  pub dead : known.dead ≡ true → AllByRecursion CountsNot (seens row)
 
-pub record ServesWatched {S : Type 0} (tag : ℕ) (Serves : S → Type 0) (state : WatchState S) : Type 0 where
+pub record ServesWatched {S : Type 0} (known : Within) (Serves : S → Type 0) (state : WatchState S) : Type 0 where
   pub inner : Serves state.inner
   pub small : IsSmall state.seen
-  pub dead : tag ≡ 2 → state.seen ≡ None
+  pub dead : known.dead ≡ true → state.seen ≡ None
 
 -- the count with which a live layout starts
 abbrev pub seen_under : Layer → Option ℕ → Option ℕ
@@ -108,9 +121,9 @@ seen_under Keep seen = seen
 seen_under Place seen = Some 0
 seen_under Take seen = None
 
-abbrev pub admitted_watched : {S : Type 0} → ℕ → Layer → (S → S) → WatchState S → WatchState S
-admitted_watched tag layer admitted state =
-    watch_state (admitted state.inner) (if tag == 2 then None else seen_under layer state.seen)
+abbrev pub admitted_watched : {S : Type 0} → Bool → Layer → (S → S) → WatchState S → WatchState S
+admitted_watched dead layer admitted state =
+    watch_state (admitted state.inner) (if dead then None else seen_under layer state.seen)
 
 -- what is asked of an object that is to be kept so: a live layout may place the layer, or take it
 abbrev pub act_under : {O : Type 0} → Layer → Act O → Act O
@@ -118,5 +131,5 @@ act_under Keep act = act
 act_under Place act = Swap tos.Watch
 act_under Take act = Swap tos.Unwatch
 
-abbrev pub watched_act : {O : Type 0} → ℕ → Layer → Act O → Act O
-watched_act tag layer act = if tag == 2 then Swap tos.Dead else act_under layer act
+abbrev pub watched_act : {O : Type 0} → Bool → Layer → Act O → Act O
+watched_act dead layer act = if dead then Swap tos.Dead else act_under layer act

@@ -1,5 +1,6 @@
 //! Layouts that know of no layer.
-ghost use Rattle.std.specs.Prelude.{◌≡◌, ◌≤◌};
+ghost use Rattle.std.specs.Prelude.{◌≡◌};
+ghost use Rattle.k42_shapes.specs.Shapes.{IsKnownTag, is_dead_tag};
 ghost use Rattle.k42_kinds.specs.Watched.{Asking};
 ghost use Rattle.k42_watch.specs.Bare.{TakesNoSeen, KeepsState, AsksByTag};
 
@@ -31,6 +32,6 @@ pub trait Bare: Layout {
     ghost keeps_state: { (layout : Self) → KeepsState (Self.object layout) };
 
     /// A live layout is asked for by its name, and the dead one by a destroy.
-    ghost asks_by_tag: { (layout : Self) → Self.tag_of layout ≤ 2
-        → AsksByTag (Self.tag_of layout) (Self.act_of layout) };
+    ghost asks_by_tag: { (layout : Self) → IsKnownTag (Self.shapes layout) (Self.tag_of layout)
+        → AsksByTag (is_dead_tag (Self.shapes layout) (Self.tag_of layout)) (Self.act_of layout) };
 }

@@ -1,7 +1,9 @@
 //! A layout with a layer round it that counts the calls of its object.
-ghost use Rattle.std.specs.Prelude.{◌≡◌, ◌==◌, ◌≤◌, IsTrue, refl};
+ghost use Rattle.std.specs.Prelude.{◌≡◌, IsTrue, refl};
 ghost use Rattle.k42_kinds.specs.LayoutLaws.{IsTagged};
 ghost use Rattle.k42_kinds.specs.Watched.{watched};
+ghost use Rattle.k42_shapes.specs.Shapes.{is_dead_tag};
+ghost use Rattle.k42_watch.specs.WatchedRows as rows;
 ghost use Rattle.k42_watch.specs.WatchedRows.{inners, watched_ways, IsWatchedRow, ServesWatched, admitted_watched, watched_act};
 ghost use Rattle.k42_watch.specs.WatchLaws as laws;
 ghost use Rattle.k42_watch.specs.declared.watch.Layer.TheVariants.{Keep};
@@ -10,6 +12,7 @@ use crate::bare::Bare;
 use crate::rows::{count_made, count_of, put_together, shared_out, take_apart};
 use k42_kinds::{Act, Kind, Layout, Reach, To, WatchState, counted};
 use k42_memory::Memory;
+use k42_shapes::Shape;
 use std::alloc::Global;
 use std::mem::replace;
 
@@ -70,22 +73,32 @@ impl<L: Bare> Kind for Watch<L> {
 impl<L: Bare> Layout for Watch<L> {
     type Part = WatchPart<L::Part>;
 
+    ghost shapes = { λ watch. L.shapes watch.inner };
+
     ghost tag_of = { λ watch. L.tag_of watch.inner };
 
     ghost has_tag = { λ watch tag. L.has_tag watch.inner tag };
 
-    ghost ways = { λ watch. watched_ways L.asking (L.tag_of watch.inner) (L.ways watch.inner) };
+    ghost ways = { λ watch. watched_ways L.asking (rows.within (L.shapes watch.inner) (L.tag_of watch.inner)) (L.ways watch.inner) };
 
-    ghost whole = { λ watch procs. IsWatchedRow (L.tag_of watch.inner) (L.whole watch.inner procs) };
+    ghost whole = { λ watch procs. IsWatchedRow (rows.within (L.shapes watch.inner) (L.tag_of watch.inner)) (L.whole watch.inner procs) };
 
-    ghost serves = { λ watch. ServesWatched (L.tag_of watch.inner) (L.serves watch.inner) };
+    ghost serves = { λ watch. ServesWatched (rows.within (L.shapes watch.inner) (L.tag_of watch.inner)) (L.serves watch.inner) };
 
-    ghost admitted = { λ watch. admitted_watched (L.tag_of watch.inner) watch.layer (L.admitted watch.inner) };
+    ghost admitted = { λ watch. admitted_watched (is_dead_tag (L.shapes watch.inner) (L.tag_of watch.inner)) watch.layer (L.admitted watch.inner) };
 
-    ghost act_of = { λ watch. watched_act (L.tag_of watch.inner) watch.layer (L.act_of watch.inner) };
+    ghost act_of = { λ watch. watched_act (is_dead_tag (L.shapes watch.inner) (L.tag_of watch.inner)) watch.layer (L.act_of watch.inner) };
 
     fn tag(&self) -> u32 {
         self.inner.tag()
+    }
+
+    fn live(&self) -> u32 {
+        self.inner.live()
+    }
+
+    fn shape(&self) -> Shape {
+        self.inner.shape()
     }
 
     fn with_tag(&self, tag: u32) -> Self
@@ -103,10 +116,9 @@ impl<L: Bare> Layout for Watch<L> {
         if !L::asks_count(op) {
             return self.inner.reach(op, proc, procs);
         }
-        if self.inner.tag() == 1 {
-            Reach::All
-        } else {
-            Reach::One(0)
+        match self.inner.shape() {
+            Shape::One => Reach::One(0),
+            Shape::Each | Shape::Groups(_) => Reach::All,
         }
     }
 
@@ -130,7 +142,7 @@ impl<L: Bare> Layout for Watch<L> {
         op: &L::Op,
     ) -> Result<L::Reply, Memory> {
         if L::asks_count(op) {
-            return Ok(L::tell_count(self.inner.tag() == 2, part.seen));
+            return Ok(L::tell_count(self.inner.tag() == self.inner.live(), part.seen));
         }
         let reply = self.inner.step_one(alloc, &mut part.inner, op)?;
         part.seen = counted(part.seen);
@@ -144,7 +156,7 @@ impl<L: Bare> Layout for Watch<L> {
         op: &L::Op,
     ) -> Result<L::Reply, Memory> {
         if L::asks_count(op) {
-            return Ok(L::tell_count(self.inner.tag() == 2, count_of(parts)));
+            return Ok(L::tell_count(self.inner.tag() == self.inner.live(), count_of(parts)));
         }
         let mut inners = Vec::with_capacity(alloc, parts.len())?;
         let mut seens = Vec::with_capacity(alloc, parts.len())?;
@@ -186,7 +198,7 @@ impl<L: Bare> Layout for Watch<L> {
 
     fn admit(&self, state: WatchState<L::State>) -> WatchState<L::State> {
         let seen = match self.layer {
-            _ if self.inner.tag() == 2 => None,
+            _ if self.inner.tag() == self.inner.live() => None,
             Layer::Keep => state.seen,
             Layer::Place => Some(0),
             Layer::Take => None,
@@ -199,7 +211,7 @@ impl<L: Bare> Layout for Watch<L> {
 
     fn act(&self) -> Act<L::Op> {
         match self.layer {
-            _ if self.inner.tag() == 2 => Act::Swap(To::Dead),
+            _ if self.inner.tag() == self.inner.live() => Act::Swap(To::Dead),
             Layer::Keep => self.inner.act(),
             Layer::Place => Act::Swap(To::Watch),
             Layer::Take => Act::Swap(To::Unwatch),
@@ -208,49 +220,56 @@ impl<L: Bare> Layout for Watch<L> {
 
     ghost steps = { λ watch procs proc row op known there takes kept.
         laws.reached_steps L.asking (L.object watch.inner) (L.ways watch.inner) (L.whole watch.inner procs) (L.serves
-        watch.inner) (L.tag_of watch.inner) procs (laws.some_of there)
+        watch.inner) (rows.within (L.shapes watch.inner) (L.tag_of watch.inner)) procs (laws.some_of there)
         (λ parts whole. L.stands watch.inner procs parts known (laws.some_of there) whole) (λ state served. L.ends watch.inner state known served) row op kept proc (L.asking.asks op) refl takes
         (λ own. L.steps watch.inner procs proc (inners row) op known there own kept.inner) (λ own. L.reaches watch.inner procs proc op known there own) };
 
     ghost steps_all = { λ watch procs row op known some takes kept.
         laws.all_steps L.asking (L.object watch.inner) (L.ways watch.inner) (L.whole watch.inner procs) (L.serves
-        watch.inner) (L.tag_of watch.inner) procs some
+        watch.inner) (rows.within (L.shapes watch.inner) (L.tag_of watch.inner)) procs some
         (λ parts whole. L.stands watch.inner procs parts known some whole) (λ state served. L.ends watch.inner state known served) row op kept (L.asking.asks op) refl takes
         (λ own. L.steps_all watch.inner procs (inners row) op known some own kept.inner) };
 
     ghost reaches = { λ watch procs proc op known there takes.
-        laws.reaches_watched L.asking (L.object watch.inner) (L.ways watch.inner) (L.tag_of watch.inner) procs proc op
+        laws.reaches_watched L.asking (L.object watch.inner) (L.ways watch.inner) (rows.within (L.shapes watch.inner) (L.tag_of watch.inner)) procs proc op
         (L.asking.asks op) refl (laws.some_of there)
         (λ own. L.reaches watch.inner procs proc op known there own) takes };
 
     ghost stands = { λ watch procs row known some kept.
-        laws.stands_watched L.asking (L.ways watch.inner) (L.whole watch.inner procs) (L.serves watch.inner) (L.tag_of
-        watch.inner) procs row kept (L.stands watch.inner procs (inners row) known some kept.inner) };
+        laws.stands_watched L.asking (L.ways watch.inner) (L.whole watch.inner procs) (L.serves watch.inner) (rows.within (L.shapes watch.inner) (L.tag_of watch.inner)) procs row kept
+        (L.stands watch.inner procs (inners row) known some kept.inner) };
 
     ghost begins = { λ watch procs known some.
-        laws.begins_watched L.asking (L.object watch.inner) (L.ways watch.inner) (L.whole watch.inner procs) (L.tag_of
-        watch.inner) procs (L.begins watch.inner procs known some) };
+        laws.begins_watched L.asking (L.object watch.inner) (L.ways watch.inner) (L.whole watch.inner procs) (L.shapes watch.inner) (L.tag_of watch.inner) procs
+        (L.begins watch.inner procs known some) };
 
     ghost imports = { λ watch procs state known some kept.
-        laws.imports_watched L.asking (L.ways watch.inner) (L.whole watch.inner procs) (L.serves watch.inner) (L.tag_of watch.inner) procs state some kept
+        laws.imports_watched L.asking (L.ways watch.inner) (L.whole watch.inner procs) (L.serves watch.inner) (rows.within (L.shapes watch.inner) (L.tag_of watch.inner)) procs state some kept
         (L.imports watch.inner procs state.inner known some kept.inner) (λ parts whole. L.stands watch.inner procs parts known some whole) };
 
     ghost ends = { λ watch state known served. L.ends watch.inner state.inner known served.inner };
 
-    ghost admits = { λ watch before state known live same kept. laws.admits_watched (L.serves watch.inner) (L.admitted watch.inner) (L.tag_of watch.inner) watch.layer state kept.small
+    ghost admits = { λ watch before state known live same kept. laws.admits_watched (L.serves watch.inner) (L.admitted watch.inner) (rows.within (L.shapes watch.inner)
+        (L.tag_of watch.inner)) watch.layer state kept.small
         (L.admits watch.inner before.inner state.inner known live (laws.inner_same L.asking (L.object before.inner)
         (L.object watch.inner) (L.takes_no_seen before.inner) (L.takes_no_seen watch.inner) same) kept.inner) };
 
     ghost swaps = { λ watch state known.
-        laws.swaps_watched L.asking (L.object watch.inner) (L.admitted watch.inner) (L.tag_of watch.inner) watch.layer
+        laws.swaps_watched L.asking (L.object watch.inner) (L.admitted watch.inner) (rows.within (L.shapes watch.inner) (L.tag_of watch.inner)) watch.layer
         (L.act_of watch.inner) state (L.keeps_state watch.inner) (L.asks_by_tag watch.inner known) (L.swaps
         watch.inner state.inner known) };
 
-    ghost asks = { λ watch. laws.asks_watched (L.tag_of watch.inner) watch.layer (L.act_of watch.inner) (L.asks watch.inner) };
+    ghost asks = { λ watch. laws.asks_watched (is_dead_tag (L.shapes watch.inner) (L.tag_of watch.inner)) watch.layer (L.act_of watch.inner) (L.asks watch.inner) };
+
+    ghost alike = { λ watch other same. L.alike watch.inner other.inner (laws.inner_same L.asking (L.object watch.inner) (L.object other.inner) (L.takes_no_seen watch.inner)
+        (L.takes_no_seen other.inner) same) };
+
+    ghost few = { λ watch. L.few watch.inner };
 
     ghost agrees = { λ watch other same tags.
         laws.agree_watched L.asking (L.ways watch.inner) (L.ways other.inner) (L.whole watch.inner) (L.whole
-        other.inner) (L.serves watch.inner) (L.serves other.inner) (L.tag_of watch.inner) (L.tag_of
-        other.inner) tags
+        other.inner) (L.serves watch.inner) (L.serves other.inner) (rows.within (L.shapes watch.inner) (L.tag_of watch.inner)) (rows.within (L.shapes other.inner) (L.tag_of other.inner))
+        (λ i. rows.within (L.alike watch.inner other.inner (laws.inner_same L.asking (L.object watch.inner) (L.object other.inner) (L.takes_no_seen watch.inner)
+        (L.takes_no_seen other.inner) same) i) (tags i))
         (L.agrees watch.inner other.inner (laws.inner_same L.asking (L.object watch.inner) (L.object other.inner) (L.takes_no_seen watch.inner) (L.takes_no_seen other.inner) same) tags) };
 }

@@ -2,6 +2,7 @@
 mod any;
 mod counters;
 mod directories;
+mod groups;
 mod kinds;
 mod merges;
 mod pages;

@@ -7,10 +7,10 @@ use Rattle.phase_core.specs.declared.caller.SwapAt.TheVariants.{Draining, Draine
 use Rattle.phase_core.specs.Event.{Event, Turn, TakeRoleWith, LookUp, Install, Knock, StepOut, EndCall, Begin, Interpose, Block, Move, TurnOver, Open, Clear, Free}
 use Rattle.phase_core.specs.Plain.{Phases}
 use Rattle.phase_core.specs.Runs.{run}
-use Rattle.phase_core.specs.State.{object_at, visitor_at, empty_entry, new_phases}
+use Rattle.phase_core.specs.State.{object_at, visitor_at, empty_entry, of_two, new_phases}
 
 abbrev new : Phases
-new = new_phases 1 (0 ∷ []) (0 ∷ 0 ∷ [])
+new = new_phases 1 (of_two 0 ∷ []) (0 ∷ 0 ∷ [])
 
 -- caller 1 is inside a row that it found by its processor's entry
 abbrev call : List Event

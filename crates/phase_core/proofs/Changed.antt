@@ -9,7 +9,7 @@ use Rattle.k42_places.proofs.Written.{get_or-set_related}
 use Rattle.gen_core.specs.State.{proc_at, caller_at}
 use Rattle.gen_core.specs.Events as turns
 use Rattle.gen_core.proofs.Alone.{no_generation_falls}
-use Rattle.phase_core.specs.Consequences.{object_changed, NeverFalls, TurnsOver, IsSameRow}
+use Rattle.phase_core.specs.Consequences.{object_changed, NeverFalls, KeepsShapes, TurnsOver, IsSameRow}
 use Rattle.phase_core.specs.Effects.{is_empty_at}
 use Rattle.phase_core.specs.Event.{Event, Turn, TakeRoleWith, LookUp, RootLoad, Install, Knock, StepOut, EndCall, Begin, Interpose, Block, Move, TurnOver, Unblock, Open, Clear, Free}
 use Rattle.phase_core.specs.Events.{taken_with, interposed, opened, is_possible, effect, happens}
@@ -26,12 +26,13 @@ turns_over event = false
 
 -- what an object becomes
 pub record GoesOn (over : Bool) (k l : Object) : Type 0 where
+  pub shapes : l.shapes ≡ k.shapes
   pub freed : k.freed ≤ l.freed
   pub incarnation : k.incarnation ≤ l.incarnation
   pub row : over ≡ false → IsSameRow k l
 
 GoesOn-refl : (over : Bool) (k : Object) → GoesOn over k k
-GoesOn-refl over k = record { freed = le_refl k.freed; incarnation = le_refl k.incarnation; row = λ e. record { incarnation = refl; layout = refl } }
+GoesOn-refl over k = record { shapes = refl; freed = le_refl k.freed; incarnation = le_refl k.incarnation; row = λ e. record { incarnation = refl; layout = refl } }
 
 -- what an event that may change one object makes of each
 pub record ObjectAfter (over : Bool) (s t : Phases) (changed : Option ℕ) : Type 0 where
@@ -64,10 +65,11 @@ module _ (s : Phases) where
   -- neither the row nor what is freed of it changes
   kept_after : (q : ℕ) (l : Object) (t : Phases) → t.objects ≡ set s.objects q l → t.turns ≡ s.turns
       → l.freed ≡ (object_at s q).freed → l.incarnation ≡ (object_at s q).incarnation → l.layout ≡ (object_at s q).layout
+      → l.shapes ≡ (object_at s q).shapes
       → ObjectAfter false s t (Some q)
-  kept_after q l t same turns_same freed incarnation layout =
+  kept_after q l t same turns_same freed incarnation layout shapes =
       put_after false q l t same turns_same
-      (record { freed = omega (arith, freed); incarnation = omega (arith, incarnation); row = λ e. record { incarnation = incarnation; layout = layout } })
+      (record { shapes = shapes; freed = omega (arith, freed); incarnation = omega (arith, incarnation); row = λ e. record { incarnation = incarnation; layout = layout } })
 
   either : (over b : Bool) (changed : Option ℕ) (t u : Phases) → ObjectAfter over s t changed → ObjectAfter over s u changed
       → ObjectAfter over s (cond b t u) changed
@@ -75,13 +77,13 @@ module _ (s : Phases) where
   either over false changed t u first second = second
 
   interposed_after : (c : ℕ) (swap : SwapAt) → ObjectAfter false s (interposed s c swap) (named_by swap)
-  interposed_after c (Begun q) = kept_after q _ _ refl refl refl refl refl
-  interposed_after c (Interposing q p) = kept_after q _ _ refl refl refl refl refl
+  interposed_after c (Begun q) = kept_after q _ _ refl refl refl refl refl refl
+  interposed_after c (Interposing q p) = kept_after q _ _ refl refl refl refl refl refl
   interposed_after c swap = same_objects false (named_by swap) s refl still
 
   opened_after : (c : ℕ) (swap : SwapAt) → ObjectAfter false s (opened s c swap) (named_by swap)
-  opened_after c (Opening q p) = kept_after q _ _ refl refl refl refl refl
-  opened_after c (Reopening q p) = kept_after q _ _ refl refl refl refl refl
+  opened_after c (Opening q p) = kept_after q _ _ refl refl refl refl refl refl
+  opened_after c (Reopening q p) = kept_after q _ _ refl refl refl refl refl refl
   opened_after c swap = same_objects false (named_by swap) s refl still
 
   taken_after : (c : ℕ) (notes : List (ℕ × ℕ)) (role : Option ℕ) → ObjectAfter false s (taken_with s c notes role) None
@@ -93,7 +95,7 @@ module _ (s : Phases) where
   freed_after c q n x true more =
       let less = ltb-true (object_at s q).freed n more in
       put_after false q _ _ refl refl
-      (record { freed = omega (arith, less); incarnation = le_refl (object_at s q).incarnation; row = λ e. record { incarnation = refl; layout = refl } })
+      (record { shapes = refl; freed = omega (arith, less); incarnation = le_refl (object_at s q).incarnation; row = λ e. record { incarnation = refl; layout = refl } })
   freed_after c q n x false more = same_objects false (Some q) s refl still
 
 -- a swap that is under way names its object
@@ -122,31 +124,31 @@ effect_after s (LookUp c q) possible = same_objects s false None _ refl (still s
 effect_after s (RootLoad c q) possible = same_objects s false None s refl (still s)
 effect_after s (Install c q) possible =
     either s false (is_empty_at (entry_at (object_at s q) (proc_of s c)) (row_of (visitor_at s c).place)) (Some q) _ _
-    (kept_after s q _ _ refl refl refl refl refl) (same_objects s false (Some q) _ refl (still s))
-effect_after s (Knock c q) possible = kept_after s q _ _ refl refl refl refl refl
-effect_after s (StepOut c) possible = kept_after s (object_of (visitor_at s c).place) _ _ refl refl refl refl refl
+    (kept_after s q _ _ refl refl refl refl refl refl) (same_objects s false (Some q) _ refl (still s))
+effect_after s (Knock c q) possible = kept_after s q _ _ refl refl refl refl refl refl
+effect_after s (StepOut c) possible = kept_after s (object_of (visitor_at s c).place) _ _ refl refl refl refl refl refl
 effect_after s (EndCall c) possible = same_objects s false None _ refl (still s)
 effect_after s (Begin c q) possible =
-    either s false (object_at s q).swap (Some q) _ _ (same_objects s false (Some q) s refl (still s)) (kept_after s q _ _ refl refl refl refl refl)
+    either s false (object_at s q).swap (Some q) _ _ (same_objects s false (Some q) s refl (still s)) (kept_after s q _ _ refl refl refl refl refl refl)
 effect_after s (Interpose c) possible = interposed_after s c (visitor_at s c).swap
 effect_after s (Block c) possible =
     rw (under_way is_drained refl (visitor_at s c).swap (and_parts (turns.is_idle (caller_at s.turns c).grace) _ possible).1)
-    (kept_after s (object_named (visitor_at s c).swap) _ _ refl refl refl refl refl)
+    (kept_after s (object_named (visitor_at s c).swap) _ _ refl refl refl refl refl refl)
 effect_after s (Move c) possible =
     rw (under_way is_blocking refl (visitor_at s c).swap possible)
     (either s false (eqb (object_at s (object_named (visitor_at s c).swap)).count 0) (Some (object_named (visitor_at s c).swap)) _ _
-    (kept_after s (object_named (visitor_at s c).swap) _ _ refl refl refl refl refl) (same_objects s false _ s refl (still s)))
+    (kept_after s (object_named (visitor_at s c).swap) _ _ refl refl refl refl refl refl) (same_objects s false _ s refl (still s)))
 effect_after s (TurnOver c layout) possible =
     rw (under_way is_moved refl (visitor_at s c).swap (and_parts (is_moved (visitor_at s c).swap) _ possible).0)
     (put_after s true (object_named (visitor_at s c).swap) _ _ refl refl
-    (record { freed = le_refl (object_at s (object_named (visitor_at s c).swap)).freed; incarnation = omega arith; row = λ e. absurd (cc) }))
+    (record { shapes = refl; freed = le_refl (object_at s (object_named (visitor_at s c).swap)).freed; incarnation = omega arith; row = λ e. absurd (cc) }))
 effect_after s (Unblock c) possible =
     rw (under_way is_moved refl (visitor_at s c).swap possible)
-    (kept_after s (object_named (visitor_at s c).swap) _ _ refl refl refl refl refl)
+    (kept_after s (object_named (visitor_at s c).swap) _ _ refl refl refl refl refl refl)
 effect_after s (Open c) possible = opened_after s c (visitor_at s c).swap
 effect_after s (Clear c) possible =
     rw (under_way is_ended refl (visitor_at s c).swap possible)
-    (kept_after s (object_named (visitor_at s c).swap) _ _ refl refl refl refl refl)
+    (kept_after s (object_named (visitor_at s c).swap) _ _ refl refl refl refl refl refl)
 effect_after s (Free c q) possible = freed_after s c q (unwrap_or (note_at (visitor_at s c).noted q) 0) _ _ refl
 
 -- so does an event, possible or not
@@ -155,6 +157,10 @@ happens_after s event = by_test (is_possible s event) refl where
   by_test : (b : Bool) → is_possible s event ≡ b → ObjectAfter (turns_over event) s (cond b (effect s event) s) (object_changed s event)
   by_test true possible = effect_after s event possible
   by_test false possible = same_objects s (turns_over event) (object_changed s event) s refl (still s)
+
+-- the layouts of each object stay
+pub shapes_stay : (s : Phases) (event : Event) → KeepsShapes s (happens s event)
+shapes_stay s event o = ((happens_after s event).goes o).shapes
 
 pub nothing_falls : (events : List Event) (s : Phases) → NeverFalls s (run events s)
 nothing_falls [] s = record {

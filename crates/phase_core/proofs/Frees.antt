@@ -95,6 +95,7 @@ module _ (scene : Scene) (s : Phases) (h : IsInScene scene s) (c : ℕ) (g : Cal
           bits = object.bits_follow.bits;
           last = object.bits_follow.last;
           layout = object.bits_follow.layout;
+          few = object.bits_follow.few;
         };
         within = object.within;
         many_entries = object.many_entries;

@@ -116,7 +116,7 @@ module _ (scene : Scene) (s : Phases) (h : IsInScene scene s) (c : ℕ) (there :
 
   installed_by : (o : ℕ) (place : Place) → x.place ≡ place → is_missed place o ≡ true
       → IsSound (cond (is_empty_at (entry_at (object_at s o) g.proc) (row_of place))
-      (put_object (put_visitor s c (at_place x (Direct o (row_of place)))) o (put_entry (object_at s o) g.proc (direct_entry (object_at s o).layout g.proc (row_of place))))
+      (put_object (put_visitor s c (at_place x (Direct o (row_of place)))) o (put_entry (object_at s o) g.proc (direct_entry (object_at s o).shapes (object_at s o).layout g.proc (row_of place))))
       (put_visitor s c (at_place x Out)))
   installed_by o (Missed q i) at_row missed =
       let same : q ≡ o = eqb-true q o missed in
@@ -185,11 +185,11 @@ module _ (scene : Scene) (s : Phases) (h : IsInScene scene s) (c : ℕ) (there :
     by_count false e = sound_in h
   moved_by swap at_swap is = absurd (cc)
 
-  turned_by : (layout : ℕ) → layout ≤ 2 → (swap : SwapAt) → x.swap ≡ swap → is_moved swap ≡ true
+  turned_by : (layout : ℕ) (swap : SwapAt) → layout ≤ length (object_at s (object_named swap)).shapes → x.swap ≡ swap → is_moved swap ≡ true
       → IsSound (staged s c (object_named swap) (Opening (object_named swap) 0) (turned_over (object_at s (object_named swap)) layout))
-  turned_by layout fits (Moved o) at_swap is =
+  turned_by layout (Moved o) fits at_swap is =
       sound_in (keeps_turned_over scene s h c g x at_c at_x o (object_at s o) (named_there o (Moved o) at_swap refl) layout at_swap fits)
-  turned_by layout fits swap at_swap is = absurd (cc)
+  turned_by layout swap fits at_swap is = absurd (cc)
 
   unblocked_by : (swap : SwapAt) → x.swap ≡ swap → is_moved swap ≡ true
       → IsSound (staged s c (object_named swap) (Reopening (object_named swap) 0) (unblocked (object_at s (object_named swap))))
@@ -286,7 +286,7 @@ event_keeps s (Block c) sound there named possible =
 event_keeps s (Move c) sound there named possible = moved_by sound.scene s sound.in_scene c there (visitor_at s c).swap refl possible
 event_keeps s (TurnOver c layout) sound there named possible =
     let parts = and_parts (is_moved (visitor_at s c).swap) _ possible in
-    turned_by sound.scene s sound.in_scene c there layout (leb-true layout 2 parts.1) (visitor_at s c).swap refl parts.0
+    turned_by sound.scene s sound.in_scene c there layout (visitor_at s c).swap (leb-true layout _ parts.1) refl parts.0
 event_keeps s (Unblock c) sound there named possible = unblocked_by sound.scene s sound.in_scene c there (visitor_at s c).swap refl possible
 event_keeps s (Open c) sound there named possible = opened_by sound.scene s sound.in_scene c there (visitor_at s c).swap refl possible
 event_keeps s (Clear c) sound there named possible = cleared_by sound.scene s sound.in_scene c there (visitor_at s c).swap refl possible

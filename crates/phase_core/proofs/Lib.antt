@@ -16,6 +16,7 @@ pub mod Changed
 pub mod Fresh
 pub mod Reached
 pub mod AWholeSwap
+mod AGroupedObject
 pub mod AtTheLast
 pub mod Ranges
 pub mod Notes

@@ -51,6 +51,7 @@ IsObject-drained procs callers look c o k settled swapper there stage freed note
         bits = ⊎_elim (λ draining. rw draining at old.bits_follow.bits) (λ drained. rw drained at old.bits_follow.bits) stage;
         last = old.bits_follow.last;
         layout = old.bits_follow.layout;
+        few = old.bits_follow.few;
       };
       within = tt;
       many_entries = old.many_entries;

@@ -61,7 +61,7 @@ module _ (s : Phases) (sound : IsSound s) where
         let p : ℕ = (caller_at s.turns c).proc in
         let look = sound.scene.looks o in
         room_for (entry_at k p).incarnation
-        (entry_recent look.stage look.incarnation k.layout p (entry_at k p)
+        (entry_recent look.stage look.incarnation k.shapes k.layout p (entry_at k p)
         ((object_of o named).entries_follow p (entry_at k p) (slice_get-get_or k.entries p (empty_entry 0) (entry_there c o there named))))
 
     pub room_knocked : length (with_row (visitor_at s c).read o (object_at s o).incarnation) ≤ 2 * length (visitor_at s c).noted

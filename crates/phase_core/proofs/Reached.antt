@@ -6,6 +6,7 @@ use Rattle.std.proofs.lemmas.Option.{slice_get-get_or, get_or_from_slice_get}
 use Rattle.std.proofs.lemmas.Bool.{cases_eq, cases_lt}
 use Rattle.gen_core.specs.declared.event.GenEvent.TheVariants.{Leave}
 use Rattle.gen_core.specs.State.{caller_at}
+use Rattle.k42_shapes.specs.declared.shape.Shape.{Shape}
 use Rattle.phase_core.specs.declared.caller.Place.{Place}
 use Rattle.phase_core.specs.declared.caller.Place.TheVariants.{Out, Missed, Direct, AtMediator, Tracked, Blocked}
 use Rattle.phase_core.specs.declared.caller.SwapAt.{SwapAt}
@@ -65,20 +66,20 @@ IsSound-run (event ∷ events) s sound in_range =
 
 pub reached_sound : (s : Phases) → IsReached s → IsSound s
 reached_sound s reached =
-    rw reached.result (IsSound-run reached.events (new_phases reached.procs reached.layouts reached.callers)
-    (IsSound-new reached.procs reached.layouts reached.callers reached.plan)
+    rw reached.result (IsSound-run reached.events (new_phases reached.procs reached.plans reached.callers)
+    (IsSound-new reached.procs reached.plans reached.callers reached.plan)
     (rw (length-map, length-map) reached.in_range))
 
 -- where MOVE is set nobody is inside
 
-moving_moved : (b : Bits) (layout incarnation : ℕ) (stage : SwapAt) → BitsFollow b layout incarnation stage → b.moving ≡ true
+moving_moved : (b : Bits) (shapes : List Shape) (layout incarnation : ℕ) (stage : SwapAt) → BitsFollow b shapes layout incarnation stage → b.moving ≡ true
     → (is_closed stage ≡ true) × (has_moved stage ≡ true)
-moving_moved b layout incarnation Idle bits e = let m = bits.1 in absurd (cc)
-moving_moved b layout incarnation (Moved o) bits e = (refl, refl)
-moving_moved b layout incarnation (Reopening o p) bits e = let m = bits.1 in absurd (cc)
-moving_moved b layout incarnation (Opened o) bits e =
+moving_moved b shapes layout incarnation Idle bits e = let m = bits.1 in absurd (cc)
+moving_moved b shapes layout incarnation (Moved o) bits e = (refl, refl)
+moving_moved b shapes layout incarnation (Reopening o p) bits e = let m = bits.1 in absurd (cc)
+moving_moved b shapes layout incarnation (Opened o) bits e =
     ⊎_elim (λ clear. let m = clear.1 in absurd (cc)) (λ complete. let m = complete.0.1 in absurd (cc)) bits
-moving_moved b layout incarnation stage bits e = let m = bits.0.1 in absurd (cc)
+moving_moved b shapes layout incarnation stage bits e = let m = bits.0.1 in absurd (cc)
 
 pub moving_alone : (s : Phases) (c o : ℕ) → IsSound s → c < length s.turns.callers → o < length s.objects
     → (object_at s o).moving ≡ true → (i : ℕ) → ¬ IsInside (visitor_at s c).place o i
@@ -92,7 +93,7 @@ moving_alone s c o sound there named moving i = by_place (visitor_at s c).place 
   stage : (is_closed (sound.scene.looks o).stage ≡ true) × (has_moved (sound.scene.looks o).stage ≡ true)
   stage =
       let object = sound.in_scene.objects o (object_at s o) (slice_get-get_or s.objects o fresh_object named) in
-      moving_moved (bits_of (object_at s o)) (object_at s o).layout (object_at s o).incarnation (sound.scene.looks o).stage object.bits_follow.bits moving
+      moving_moved (bits_of (object_at s o)) (object_at s o).shapes (object_at s o).layout (object_at s o).incarnation (sound.scene.looks o).stage object.bits_follow.bits moving
 
   by_place : (place : Place) → IsAtPlace sound.scene (caller_at s.turns c) (visitor_at s c).read place → IsInside place o i → ⊥
   by_place Out at inside = inside

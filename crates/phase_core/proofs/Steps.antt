@@ -10,6 +10,7 @@ use Rattle.gen_core.specs.declared.state.GraceAt.TheVariants as graces
 use Rattle.gen_core.specs.Plain.{Caller}
 use Rattle.k42_places.specs.Places.{EachPlace}
 use Rattle.k42_places.proofs.EachPlaces.{EachPlace-set, EachPlace-set_else, EachPlace-then}
+use Rattle.k42_shapes.specs.declared.shape.Shape.{Shape}
 use Rattle.phase_core.specs.declared.object.LocalEntry.{LocalEntry}
 use Rattle.phase_core.specs.declared.caller.SwapAt.{SwapAt}
 use Rattle.phase_core.specs.declared.caller.SwapAt.TheVariants.{Idle, Refused, Begun, Interposing, Interposed, Drained, Moved, Opening, Reopening, Opened}
@@ -28,14 +29,14 @@ use Rattle.phase_core.proofs.Swappers.{next_look, Carries-open, IsFreeing-next, 
 -- an object whose swap goes on, at a stage at which nobody is held back
 pub IsObject-stage : (procs callers : ℕ) (look : Outlook) (c o : ℕ) (k l : Object) (stage : SwapAt)
     → c < callers → named_by stage ≡ Some o → l.swap ≡ true
-    → l.incarnation ≡ k.incarnation → l.freed ≡ k.freed → l.layout ≡ k.layout
-    → BitsFollow (bits_of l) l.layout l.incarnation stage
-    → IsWithin procs stage → length l.entries ≡ procs → EachPlace (IsEntry stage look.incarnation l.layout) l.entries
+    → l.incarnation ≡ k.incarnation → l.freed ≡ k.freed → l.shapes ≡ k.shapes → l.layout ≡ k.layout
+    → BitsFollow (bits_of l) l.shapes l.layout l.incarnation stage
+    → IsWithin procs stage → length l.entries ≡ procs → EachPlace (IsEntry stage look.incarnation l.shapes l.layout) l.entries
     → NoneBelow look.freed l.entries → ((n : ℕ) → look.noted ≡ Some n → NoneBelow n l.entries)
     → StageNoted look.noted look.incarnation look.settled stage
     → IsObject procs callers look o k
     → IsObject procs callers (next_look look (Some c) stage look.incarnation look.settled) o l
-IsObject-stage procs callers look c o k l stage there named swap same freed layout follow within many each none noted notes old = record {
+IsObject-stage procs callers look c o k l stage there named swap same freed shapes layout follow within many each none noted notes old = record {
   bits_follow = record {
     incarnation = same ∙ old.bits_follow.incarnation;
     freed = freed ∙ old.bits_follow.freed;
@@ -44,7 +45,8 @@ IsObject-stage procs callers look c o k l stage there named swap same freed layo
     swapper_there = λ d e. rw (← (same_Some c d e)) there;
     bits = follow;
     last = rw same old.bits_follow.last;
-    layout = rw layout old.bits_follow.layout;
+    layout = rw (shapes, layout) old.bits_follow.layout;
+    few = rw shapes old.bits_follow.few;
   };
   within = within;
   many_entries = many;
@@ -61,13 +63,13 @@ IsObject-stage procs callers look c o k l stage there named swap same freed layo
 
 -- the entries as one more becomes a mediator, or is opened
 
-module _ (incarnation layout p n : ℕ) (entries : List LocalEntry) (many : length entries ≡ n) where
+module _ (incarnation : ℕ) (shapes : List Shape) (layout p n : ℕ) (entries : List LocalEntry) (many : length entries ≡ n) where
   module _ (e' : LocalEntry) (is : IsMediator incarnation 0 e')
-      (old : EachPlace (λ q e. MatchBool (ltb q p) (IsMediator incarnation 0 e) (IsOpen incarnation layout q e)) entries) where
-    pub interposed_more : EachPlace (λ q e. MatchBool (ltb q (p + 1)) (IsMediator incarnation 0 e) (IsOpen incarnation layout q e)) (set entries p e')
+      (old : EachPlace (λ q e. MatchBool (ltb q p) (IsMediator incarnation 0 e) (IsOpen incarnation shapes layout q e)) entries) where
+    pub interposed_more : EachPlace (λ q e. MatchBool (ltb q (p + 1)) (IsMediator incarnation 0 e) (IsOpen incarnation shapes layout q e)) (set entries p e')
     interposed_more =
-        EachPlace-set_else (λ q e. MatchBool (ltb q p) (IsMediator incarnation 0 e) (IsOpen incarnation layout q e))
-        (λ q e. MatchBool (ltb q (p + 1)) (IsMediator incarnation 0 e) (IsOpen incarnation layout q e)) entries p e' old
+        EachPlace-set_else (λ q e. MatchBool (ltb q p) (IsMediator incarnation 0 e) (IsOpen incarnation shapes layout q e))
+        (λ q e. MatchBool (ltb q (p + 1)) (IsMediator incarnation 0 e) (IsOpen incarnation shapes layout q e)) entries p e' old
         (rw (lt-ltb p (p + 1) (omega arith)) is)
         (λ q e other at_q was. rw (next_test q other) was)
       where
@@ -76,29 +78,29 @@ module _ (incarnation layout p n : ℕ) (entries : List LocalEntry) (many : leng
 
     pub interposed_all : ltb (p + 1) n ≡ false → EachPlace (λ q e. IsMediator incarnation 0 e) (set entries p e')
     interposed_all last =
-        EachPlace-set_else (λ q e. MatchBool (ltb q p) (IsMediator incarnation 0 e) (IsOpen incarnation layout q e))
+        EachPlace-set_else (λ q e. MatchBool (ltb q p) (IsMediator incarnation 0 e) (IsOpen incarnation shapes layout q e))
         (λ q e. IsMediator incarnation 0 e) entries p e' old is
         (λ q e other at_q was.
         let lt : q < n = rw (← many) (slice_get_within entries q e at_q) in
         let end = ltb-false (p + 1) n last in
         rw (lt-ltb q p (omega arith)) at was)
 
-  module _ (less : ℕ) (e' : LocalEntry) (is : IsOpen incarnation layout p e')
-      (old : EachPlace (λ q e. MatchBool (not (ltb q p)) (IsMediator incarnation less e) (IsOpen incarnation layout q e)) entries) where
-    pub opened_more : EachPlace (λ q e. MatchBool (not (ltb q (p + 1))) (IsMediator incarnation less e) (IsOpen incarnation layout q e)) (set entries p e')
+  module _ (less : ℕ) (e' : LocalEntry) (is : IsOpen incarnation shapes layout p e')
+      (old : EachPlace (λ q e. MatchBool (not (ltb q p)) (IsMediator incarnation less e) (IsOpen incarnation shapes layout q e)) entries) where
+    pub opened_more : EachPlace (λ q e. MatchBool (not (ltb q (p + 1))) (IsMediator incarnation less e) (IsOpen incarnation shapes layout q e)) (set entries p e')
     opened_more =
-        EachPlace-set_else (λ q e. MatchBool (not (ltb q p)) (IsMediator incarnation less e) (IsOpen incarnation layout q e))
-        (λ q e. MatchBool (not (ltb q (p + 1))) (IsMediator incarnation less e) (IsOpen incarnation layout q e)) entries p e' old
+        EachPlace-set_else (λ q e. MatchBool (not (ltb q p)) (IsMediator incarnation less e) (IsOpen incarnation shapes layout q e))
+        (λ q e. MatchBool (not (ltb q (p + 1))) (IsMediator incarnation less e) (IsOpen incarnation shapes layout q e)) entries p e' old
         (rw (lt-ltb p (p + 1) (omega arith)) is)
         (λ q e other at_q was. rw (next_test q other) was)
       where
         next_test : (q : ℕ) → q ≢ p → ltb q (p + 1) ≡ ltb q p
         next_test q other = grind (arith, nat_tests)
 
-    pub opened_all : ltb (p + 1) n ≡ false → EachPlace (IsOpen incarnation layout) (set entries p e')
+    pub opened_all : ltb (p + 1) n ≡ false → EachPlace (IsOpen incarnation shapes layout) (set entries p e')
     opened_all last =
-        EachPlace-set_else (λ q e. MatchBool (not (ltb q p)) (IsMediator incarnation less e) (IsOpen incarnation layout q e))
-        (IsOpen incarnation layout) entries p e' old is
+        EachPlace-set_else (λ q e. MatchBool (not (ltb q p)) (IsMediator incarnation less e) (IsOpen incarnation shapes layout q e))
+        (IsOpen incarnation shapes layout) entries p e' old is
         (λ q e other at_q was.
         let lt : q < n = rw (← many) (slice_get_within entries q e at_q) in
         let end = ltb-false (p + 1) n last in
@@ -157,35 +159,35 @@ module _ (scene : Scene) (s : Phases) (h : IsInScene scene s) (c : ℕ) (g : Cal
       let stage = stage_of (Moved o) at_swap refl in
       let bits = rw stage at object.bits_follow.bits in
       keeps_step (Moved o) (Reopening o 0) (unblocked k) at_swap refl refl (rw at_swap at known.swap_alone.grace) (λ q e. cc) refl refl refl
-      (λ swaps. IsObject-stage scene.course.procs scene.course.callers (scene.looks o) c o k (unblocked k) (Reopening o 0) mine refl swaps refl refl refl
+      (λ swaps. IsObject-stage scene.course.procs scene.course.callers (scene.looks o) c o k (unblocked k) (Reopening o 0) mine refl swaps refl refl refl refl
       (refl, refl, bits.0.2) h.in_course.limits.some_procs object.many_entries
-      (EachPlace-then (IsEntry (Moved o) (scene.looks o).incarnation k.layout) (IsEntry (Reopening o 0) (scene.looks o).incarnation k.layout) k.entries
+      (EachPlace-then (IsEntry (Moved o) (scene.looks o).incarnation k.shapes k.layout) (IsEntry (Reopening o 0) (scene.looks o).incarnation k.shapes k.layout) k.entries
       (rw stage at object.entries_follow) (λ p e at_p old. rw (le-ltb p 0 (omega arith)) old))
       object.freed_rows.freed_entries object.freed_rows.noted_entries tt object)
       refl
 
   -- one more entry leads to the mediator
   interposed_by : (swap : SwapAt) (p : ℕ) → x.swap ≡ swap → named_by swap ≡ Some o → g.grace ≡ graces.Idle
-      → AreClear (bits_of k) × IsLive k.layout k.incarnation
-      → EachPlace (λ q e. MatchBool (ltb q p) (IsMediator (scene.looks o).incarnation 0 e) (IsOpen (scene.looks o).incarnation k.layout q e)) k.entries
+      → AreClear (bits_of k) × IsLive k.shapes k.layout k.incarnation
+      → EachPlace (λ q e. MatchBool (ltb q p) (IsMediator (scene.looks o).incarnation 0 e) (IsOpen (scene.looks o).incarnation k.shapes k.layout q e)) k.entries
       → (b : Bool) → ltb (p + 1) scene.course.procs ≡ b
       → IsInScene (looking scene o (next_look (scene.looks o) (Some c) (cond b (Interposing o (p + 1)) (Interposed o)) (scene.looks o).incarnation (scene.looks o).settled))
       (put_object (put_visitor s c (at_stage x (cond b (Interposing o (p + 1)) (Interposed o)))) o (put_entry k p (mediator_entry k.incarnation)))
   interposed_by swap p at_swap named idle bits each true more =
       let e : LocalEntry = mediator_entry k.incarnation in
       keeps_step swap (Interposing o (p + 1)) (put_entry k p e) at_swap named refl idle (λ q e. cc) refl refl refl
-      (λ swaps. IsObject-stage scene.course.procs scene.course.callers (scene.looks o) c o k (put_entry k p e) (Interposing o (p + 1)) mine refl swaps refl refl refl
+      (λ swaps. IsObject-stage scene.course.procs scene.course.callers (scene.looks o) c o k (put_entry k p e) (Interposing o (p + 1)) mine refl swaps refl refl refl refl
       bits (ltb-true (p + 1) scene.course.procs more) (length-set k.entries p e ∙ object.many_entries)
-      (interposed_more (scene.looks o).incarnation k.layout p scene.course.procs k.entries object.many_entries e
+      (interposed_more (scene.looks o).incarnation k.shapes k.layout p scene.course.procs k.entries object.many_entries e
       (record { tag = refl; blank = (refl, refl); number = omega (arith, object.bits_follow.incarnation) }) each)
       (none_freed p e refl) (none_noted p e refl) tt object)
       refl
   interposed_by swap p at_swap named idle bits each false last =
       let e : LocalEntry = mediator_entry k.incarnation in
       keeps_step swap (Interposed o) (put_entry k p e) at_swap named refl idle (λ q e. cc) refl refl refl
-      (λ swaps. IsObject-stage scene.course.procs scene.course.callers (scene.looks o) c o k (put_entry k p e) (Interposed o) mine refl swaps refl refl refl
+      (λ swaps. IsObject-stage scene.course.procs scene.course.callers (scene.looks o) c o k (put_entry k p e) (Interposed o) mine refl swaps refl refl refl refl
       bits tt (length-set k.entries p e ∙ object.many_entries)
-      (interposed_all (scene.looks o).incarnation k.layout p scene.course.procs k.entries object.many_entries e
+      (interposed_all (scene.looks o).incarnation k.shapes k.layout p scene.course.procs k.entries object.many_entries e
       (record { tag = refl; blank = (refl, refl); number = omega (arith, object.bits_follow.incarnation) }) each last)
       (none_freed p e refl) (none_noted p e refl) tt object)
       refl
@@ -200,7 +202,7 @@ module _ (scene : Scene) (s : Phases) (h : IsInScene scene s) (c : ℕ) (g : Cal
       let stage = stage_of (Begun o) at_swap refl in
       rw h.in_course.many_procs
       (interposed_by (Begun o) 0 at_swap refl (rw at_swap at known.swap_alone.grace) (rw stage at object.bits_follow.bits)
-      (EachPlace-then (IsEntry (Begun o) (scene.looks o).incarnation k.layout) (λ q e. MatchBool (ltb q 0) (IsMediator (scene.looks o).incarnation 0 e) (IsOpen (scene.looks o).incarnation k.layout q e)) k.entries
+      (EachPlace-then (IsEntry (Begun o) (scene.looks o).incarnation k.shapes k.layout) (λ q e. MatchBool (ltb q 0) (IsMediator (scene.looks o).incarnation 0 e) (IsOpen (scene.looks o).incarnation k.shapes k.layout q e)) k.entries
       (rw stage at object.entries_follow) (λ q e at_q old. rw (le-ltb q 0 (omega arith)) old))
       (ltb (0 + 1) scene.course.procs) refl)
 
@@ -213,7 +215,7 @@ module _ (scene : Scene) (s : Phases) (h : IsInScene scene s) (c : ℕ) (g : Cal
       (interposed_by (Interposing o p) p at_swap refl (rw at_swap at known.swap_alone.grace) (rw stage at object.bits_follow.bits)
       (rw stage at object.entries_follow) (ltb (p + 1) scene.course.procs) refl)
 
-  opened_entry : (p : ℕ) → IsOpen (scene.looks o).incarnation k.layout p (empty_entry k.incarnation)
+  opened_entry : (p : ℕ) → IsOpen (scene.looks o).incarnation k.shapes k.layout p (empty_entry k.incarnation)
   opened_entry p = record { tagged = inl (refl, refl, refl); number = object.bits_follow.incarnation }
 
   opened_by : (p : ℕ) → x.swap ≡ Opening o p → (b : Bool) → ltb (p + 1) scene.course.procs ≡ b
@@ -223,18 +225,18 @@ module _ (scene : Scene) (s : Phases) (h : IsInScene scene s) (c : ℕ) (g : Cal
       let e : LocalEntry = empty_entry k.incarnation in
       let stage = stage_of (Opening o p) at_swap refl in
       keeps_step (Opening o p) (Opening o (p + 1)) (put_entry k p e) at_swap refl refl (rw at_swap at known.swap_alone.grace) (λ q e. cc) refl refl refl
-      (λ swaps. IsObject-stage scene.course.procs scene.course.callers (scene.looks o) c o k (put_entry k p e) (Opening o (p + 1)) mine refl swaps refl refl refl
+      (λ swaps. IsObject-stage scene.course.procs scene.course.callers (scene.looks o) c o k (put_entry k p e) (Opening o (p + 1)) mine refl swaps refl refl refl refl
       (rw stage at object.bits_follow.bits) (ltb-true (p + 1) scene.course.procs more) (length-set k.entries p e ∙ object.many_entries)
-      (opened_more (scene.looks o).incarnation k.layout p scene.course.procs k.entries object.many_entries 1 e (opened_entry p) (rw stage at object.entries_follow))
+      (opened_more (scene.looks o).incarnation k.shapes k.layout p scene.course.procs k.entries object.many_entries 1 e (opened_entry p) (rw stage at object.entries_follow))
       (none_freed p e refl) (none_noted p e refl) tt object)
       refl
   opened_by p at_swap false last =
       let e : LocalEntry = empty_entry k.incarnation in
       let stage = stage_of (Opening o p) at_swap refl in
       keeps_step (Opening o p) (Opened o) (put_entry k p e) at_swap refl refl (rw at_swap at known.swap_alone.grace) (λ q e. cc) refl refl refl
-      (λ swaps. IsObject-stage scene.course.procs scene.course.callers (scene.looks o) c o k (put_entry k p e) (Opened o) mine refl swaps refl refl refl
+      (λ swaps. IsObject-stage scene.course.procs scene.course.callers (scene.looks o) c o k (put_entry k p e) (Opened o) mine refl swaps refl refl refl refl
       (inr (rw stage at object.bits_follow.bits)) tt (length-set k.entries p e ∙ object.many_entries)
-      (opened_all (scene.looks o).incarnation k.layout p scene.course.procs k.entries object.many_entries 1 e (opened_entry p) (rw stage at object.entries_follow) last)
+      (opened_all (scene.looks o).incarnation k.shapes k.layout p scene.course.procs k.entries object.many_entries 1 e (opened_entry p) (rw stage at object.entries_follow) last)
       (none_freed p e refl) (none_noted p e refl) tt object)
       refl
 
@@ -245,18 +247,18 @@ module _ (scene : Scene) (s : Phases) (h : IsInScene scene s) (c : ℕ) (g : Cal
       let e : LocalEntry = empty_entry k.incarnation in
       let stage = stage_of (Reopening o p) at_swap refl in
       keeps_step (Reopening o p) (Reopening o (p + 1)) (put_entry k p e) at_swap refl refl (rw at_swap at known.swap_alone.grace) (λ q e. cc) refl refl refl
-      (λ swaps. IsObject-stage scene.course.procs scene.course.callers (scene.looks o) c o k (put_entry k p e) (Reopening o (p + 1)) mine refl swaps refl refl refl
+      (λ swaps. IsObject-stage scene.course.procs scene.course.callers (scene.looks o) c o k (put_entry k p e) (Reopening o (p + 1)) mine refl swaps refl refl refl refl
       (rw stage at object.bits_follow.bits) (ltb-true (p + 1) scene.course.procs more) (length-set k.entries p e ∙ object.many_entries)
-      (opened_more (scene.looks o).incarnation k.layout p scene.course.procs k.entries object.many_entries 0 e (opened_entry p) (rw stage at object.entries_follow))
+      (opened_more (scene.looks o).incarnation k.shapes k.layout p scene.course.procs k.entries object.many_entries 0 e (opened_entry p) (rw stage at object.entries_follow))
       (none_freed p e refl) (none_noted p e refl) tt object)
       refl
   reopened_by p at_swap false last =
       let e : LocalEntry = empty_entry k.incarnation in
       let stage = stage_of (Reopening o p) at_swap refl in
       keeps_step (Reopening o p) (Opened o) (put_entry k p e) at_swap refl refl (rw at_swap at known.swap_alone.grace) (λ q e. cc) refl refl refl
-      (λ swaps. IsObject-stage scene.course.procs scene.course.callers (scene.looks o) c o k (put_entry k p e) (Opened o) mine refl swaps refl refl refl
+      (λ swaps. IsObject-stage scene.course.procs scene.course.callers (scene.looks o) c o k (put_entry k p e) (Opened o) mine refl swaps refl refl refl refl
       (inl (rw stage at object.bits_follow.bits)) tt (length-set k.entries p e ∙ object.many_entries)
-      (opened_all (scene.looks o).incarnation k.layout p scene.course.procs k.entries object.many_entries 0 e (opened_entry p) (rw stage at object.entries_follow) last)
+      (opened_all (scene.looks o).incarnation k.shapes k.layout p scene.course.procs k.entries object.many_entries 0 e (opened_entry p) (rw stage at object.entries_follow) last)
       (none_freed p e refl) (none_noted p e refl) tt object)
       refl
 
@@ -297,21 +299,21 @@ module _ (scene : Scene) (s : Phases) (h : IsInScene scene s) (c : ℕ) (g : Cal
         let bits = rw at_stage_idle at object.bits_follow.bits in
         keeps_stage scene s h c g x at_g at_x o k at_o (Refused o) (scene.looks o).incarnation (scene.looks o).settled (record k { swap = true })
         others nowhere refl inactive idle (λ q e. cc) (λ e. e)
-        (IsObject-stage scene.course.procs scene.course.callers (scene.looks o) c o k (record k { swap = true }) (Refused o) mine refl refl refl refl refl
-        (bits, ⊎_elim (λ dead. inl (eqb-true k.layout 2 dead)) (λ last. inr (eqb-true k.incarnation LAST_INCARNATION last)) (or_cases (eqb k.layout 2) (eqb k.incarnation LAST_INCARNATION) over))
+        (IsObject-stage scene.course.procs scene.course.callers (scene.looks o) c o k (record k { swap = true }) (Refused o) mine refl refl refl refl refl refl
+        (bits, ⊎_elim (λ dead. inl (eqb-true k.layout (length k.shapes) dead)) (λ last. inr (eqb-true k.incarnation LAST_INCARNATION last)) (or_cases (eqb k.layout (length k.shapes)) (eqb k.incarnation LAST_INCARNATION) over))
         tt object.many_entries (rw at_stage_idle at object.entries_follow) object.freed_rows.freed_entries object.freed_rows.noted_entries tt object)
         refl
         (Carries-open scene.course s.turns.callers s.callers o (scene.looks o) (Some c) (Refused o) (scene.looks o).settled refl refl refl)
     by_over false live =
         let bits = rw at_stage_idle at object.bits_follow.bits in
-        let parts = or_parts (eqb k.layout 2) (eqb k.incarnation LAST_INCARNATION) live in
-        let undead : k.layout ≢ 2 = eqb-false k.layout 2 parts.0 in
+        let parts = or_parts (eqb k.layout (length k.shapes)) (eqb k.incarnation LAST_INCARNATION) live in
+        let undead : k.layout ≢ length k.shapes = eqb-false k.layout (length k.shapes) parts.0 in
         let unspent : k.incarnation ≢ LAST_INCARNATION = eqb-false k.incarnation LAST_INCARNATION parts.1 in
         let most = object.bits_follow.layout in
         let last = object.bits_follow.last in
         keeps_stage scene s h c g x at_g at_x o k at_o (Begun o) (scene.looks o).incarnation (scene.looks o).settled (record k { swap = true })
         others nowhere refl inactive idle (λ q e. cc) (λ e. e)
-        (IsObject-stage scene.course.procs scene.course.callers (scene.looks o) c o k (record k { swap = true }) (Begun o) mine refl refl refl refl refl
+        (IsObject-stage scene.course.procs scene.course.callers (scene.looks o) c o k (record k { swap = true }) (Begun o) mine refl refl refl refl refl refl
         (bits, (omega arith, omega arith))
         tt object.many_entries (rw at_stage_idle at object.entries_follow) object.freed_rows.freed_entries object.freed_rows.noted_entries tt object)
         refl
@@ -320,7 +322,7 @@ module _ (scene : Scene) (s : Phases) (h : IsInScene scene s) (c : ℕ) (g : Cal
   -- the swap ends
   cleared_at : (swap : SwapAt) → x.swap ≡ swap → named_by swap ≡ Some o
       → (k.block ≡ false) × (k.moving ≡ false)
-      → EachPlace (IsEntry Idle (scene.looks o).incarnation k.layout) k.entries
+      → EachPlace (IsEntry Idle (scene.looks o).incarnation k.shapes k.layout) k.entries
       → IsInScene (looking scene o (next_look (scene.looks o) None Idle (scene.looks o).incarnation (scene.looks o).settled))
       (put_object (put_visitor s c (at_stage x Idle)) o (cleared k))
   cleared_at swap at_swap named bits each =
@@ -336,6 +338,7 @@ module _ (scene : Scene) (s : Phases) (h : IsInScene scene s) (c : ℕ) (g : Cal
           bits = (bits.0, bits.1, refl);
           last = object.bits_follow.last;
           layout = object.bits_follow.layout;
+          few = object.bits_follow.few;
         };
         within = tt;
         many_entries = object.many_entries;

@@ -1,5 +1,5 @@
 -- The caller that swaps an object keeps every fact.
-use Rattle.std.proofs.Common.{◌≡◌, ℕ, ◌+◌, ◌<◌, ◌≤◌, ◌≢◌, ◌∙◌, Bool, true, false, List, Option, Some, None, sym, refl, ap, inr, arith}
+use Rattle.std.proofs.Common.{◌≡◌, ℕ, ◌+◌, ◌<◌, ◌≤◌, ◌≢◌, ◌∙◌, Bool, true, false, List, Option, Some, None, sym, refl, ap, inr, arith, length}
 use Rattle.std.specs.List.{slice_get}
 use Rattle.std.specs.Option.{is_some}
 use Rattle.std.proofs.lemmas.Option.{same_Some, slice_get_within}
@@ -175,6 +175,7 @@ module _ (scene : Scene) (s : Phases) (h : IsInScene scene s) (c : ℕ) (g : Cal
           bits = ((refl, bits.0.1, bits.0.2), bits.1);
           last = object.bits_follow.last;
           layout = object.bits_follow.layout;
+          few = object.bits_follow.few;
         };
         within = tt;
         many_entries = object.many_entries;
@@ -214,6 +215,7 @@ module _ (scene : Scene) (s : Phases) (h : IsInScene scene s) (c : ℕ) (g : Cal
           bits = ((bits.0.0, refl, bits.0.2), bits.1);
           last = object.bits_follow.last;
           layout = object.bits_follow.layout;
+          few = object.bits_follow.few;
         };
         within = tt;
         many_entries = object.many_entries;
@@ -240,7 +242,7 @@ module _ (scene : Scene) (s : Phases) (h : IsInScene scene s) (c : ℕ) (g : Cal
           let counted = h.counted o k at_o in
           omega (arith, some, counted, none)
 
-  pub keeps_turned_over : (layout : ℕ) → x.swap ≡ Moved o → layout ≤ 2
+  pub keeps_turned_over : (layout : ℕ) → x.swap ≡ Moved o → layout ≤ length k.shapes
       → IsInScene (looking scene o (next_look (scene.looks o) (Some c) (Opening o 0) ((scene.looks o).incarnation + 1) false))
       (put_object (put_visitor s c (at_stage x (Opening o 0))) o (turned_over k layout))
   keeps_turned_over layout at_swap fits =
@@ -259,11 +261,12 @@ module _ (scene : Scene) (s : Phases) (h : IsInScene scene s) (c : ℕ) (g : Cal
           bits = ((refl, refl, refl), omega arith);
           last = let live = bits.1.1 in omega (arith, live);
           layout = fits;
+          few = object.bits_follow.few;
         };
         within = h.in_course.limits.some_procs;
         many_entries = object.many_entries;
-        entries_follow = EachPlace-then (IsEntry (Moved o) (scene.looks o).incarnation k.layout)
-            (IsEntry (Opening o 0) ((scene.looks o).incarnation + 1) layout) k.entries (rw stage at object.entries_follow)
+        entries_follow = EachPlace-then (IsEntry (Moved o) (scene.looks o).incarnation k.shapes k.layout)
+            (IsEntry (Opening o 0) ((scene.looks o).incarnation + 1) k.shapes layout) k.entries (rw stage at object.entries_follow)
             (λ p e at_p old. rw (le-ltb p 0 (omega arith)) (record { tag = old.tag; blank = old.blank; number = let n = old.number in omega (arith, n) }));
         freed_rows = record {
           freed = let least = object.freed_rows.freed in omega (arith, least);

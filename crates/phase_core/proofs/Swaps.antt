@@ -1,7 +1,8 @@
 -- What the stage of a swap says of entries and bits, and objects of which one part changes.
-use Rattle.std.proofs.Common.{◌≡◌, ℕ, ◌+◌, ◌≤◌, ◌⊎◌, ◌∙◌, Bool, true, false, length-set, Some, refl, inl, inr, ⊎_elim, arith}
+use Rattle.std.proofs.Common.{◌≡◌, ℕ, ◌+◌, ◌≤◌, ◌⊎◌, ◌∙◌, Bool, true, false, length-set, Some, refl, inl, inr, ⊎_elim, arith, List}
 use Rattle.std.specs.Bool.{MatchBool}
 use Rattle.k42_places.proofs.EachPlaces.{EachPlace-set}
+use Rattle.k42_shapes.specs.declared.shape.Shape.{Shape}
 use Rattle.phase_core.specs.declared.object.LocalEntry.{LocalEntry}
 use Rattle.phase_core.specs.declared.caller.SwapAt.{SwapAt}
 use Rattle.phase_core.specs.declared.caller.SwapAt.TheVariants.{Draining, Drained, Blocking, Moved, Opening}
@@ -29,25 +30,25 @@ open_stage (Blocking o) p e = absurd (cc)
 open_stage (Moved o) p e = absurd (cc)
 open_stage stage p e = (refl, refl)
 
-pub moved_blocks : (b : Bits) (layout incarnation : ℕ) (stage : SwapAt) → BitsFollow b layout incarnation stage → b.block ≡ false
+pub moved_blocks : (b : Bits) (shapes : List Shape) (layout incarnation : ℕ) (stage : SwapAt) → BitsFollow b shapes layout incarnation stage → b.block ≡ false
     → has_moved stage ≡ false
-moved_blocks b layout incarnation (Moved o) bits e = let blocks = bits.0.0 in absurd (cc)
-moved_blocks b layout incarnation stage bits e = refl
+moved_blocks b shapes layout incarnation (Moved o) bits e = let blocks = bits.0.0 in absurd (cc)
+moved_blocks b shapes layout incarnation stage bits e = refl
 
 -- an entry is of the incarnation or one less
-pub entry_recent : (stage : SwapAt) (incarnation layout p : ℕ) (e : LocalEntry) → IsEntry stage incarnation layout p e
+pub entry_recent : (stage : SwapAt) (incarnation : ℕ) (shapes : List Shape) (layout p : ℕ) (e : LocalEntry) → IsEntry stage incarnation shapes layout p e
     → (e.incarnation ≡ incarnation) ⊎ (e.incarnation + 1 ≡ incarnation)
-entry_recent stage incarnation layout p e is = by_test (is_mediated stage p) is where
-  by_test : (b : Bool) → MatchBool b (IsMediator incarnation (behind stage) e) (IsOpen incarnation layout p e)
+entry_recent stage incarnation shapes layout p e is = by_test (is_mediated stage p) is where
+  by_test : (b : Bool) → MatchBool b (IsMediator incarnation (behind stage) e) (IsOpen incarnation shapes layout p e)
       → (e.incarnation ≡ incarnation) ⊎ (e.incarnation + 1 ≡ incarnation)
   by_test true m =
       ⊎_elim (λ none. inl (let n = m.number in omega (arith, none, n))) (λ one. inr (let n = m.number in omega (arith, one, n))) (behind_little stage)
   by_test false m = inl m.number
 
 -- of a drained object it is of the incarnation
-pub entry_closed : (stage : SwapAt) (incarnation layout p : ℕ) (e : LocalEntry) → IsEntry stage incarnation layout p e
+pub entry_closed : (stage : SwapAt) (incarnation : ℕ) (shapes : List Shape) (layout p : ℕ) (e : LocalEntry) → IsEntry stage incarnation shapes layout p e
     → is_closed stage ≡ true → e.incarnation ≡ incarnation
-entry_closed stage incarnation layout p e is closed =
+entry_closed stage incarnation shapes layout p e is closed =
     let m = closed_mediated stage p closed in
     let n : IsMediator incarnation (behind stage) e = rw m.0 at is in
     let number = n.number in
@@ -65,6 +66,7 @@ module _ (procs callers : ℕ) (look : Outlook) (o : ℕ) (k : Object) (is : IsO
       bits = is.bits_follow.bits;
       last = is.bits_follow.last;
       layout = is.bits_follow.layout;
+      few = is.bits_follow.few;
     };
     within = is.within;
     many_entries = is.many_entries;
@@ -72,7 +74,7 @@ module _ (procs callers : ℕ) (look : Outlook) (o : ℕ) (k : Object) (is : IsO
     freed_rows = is.freed_rows;
   }
 
-  pub IsObject-entry : (p : ℕ) (e : LocalEntry) → IsEntry look.stage look.incarnation k.layout p e
+  pub IsObject-entry : (p : ℕ) (e : LocalEntry) → IsEntry look.stage look.incarnation k.shapes k.layout p e
       → look.freed ≤ e.incarnation → ((n : ℕ) → look.noted ≡ Some n → n ≤ e.incarnation)
       → IsObject procs callers look o (put_entry k p e)
   IsObject-entry p e entry freed noted = record {
@@ -85,10 +87,11 @@ module _ (procs callers : ℕ) (look : Outlook) (o : ℕ) (k : Object) (is : IsO
       bits = is.bits_follow.bits;
       last = is.bits_follow.last;
       layout = is.bits_follow.layout;
+      few = is.bits_follow.few;
     };
     within = is.within;
     many_entries = length-set k.entries p e ∙ is.many_entries;
-    entries_follow = EachPlace-set (IsEntry look.stage look.incarnation k.layout) k.entries p e is.entries_follow entry;
+    entries_follow = EachPlace-set (IsEntry look.stage look.incarnation k.shapes k.layout) k.entries p e is.entries_follow entry;
     freed_rows = record {
       freed = is.freed_rows.freed;
       freed_entries = EachPlace-set (λ q f. look.freed ≤ f.incarnation) k.entries p e is.freed_rows.freed_entries freed;

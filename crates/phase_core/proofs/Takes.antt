@@ -16,6 +16,7 @@ use Rattle.gen_core.proofs.Stages.{from_is_idle, from_is_none}
 use Rattle.gen_core.proofs.Frames.{steered, holder_from_grace}
 use Rattle.gen_core.proofs.Graces.{keeps_taken}
 use Rattle.gen_core.proofs.Reached.{holds_from}
+use Rattle.k42_shapes.specs.declared.shape.Shape.{Shape}
 use Rattle.phase_core.specs.declared.object.LocalEntry.{LocalEntry}
 use Rattle.phase_core.specs.declared.caller.SwapAt.{SwapAt}
 use Rattle.phase_core.specs.declared.caller.SwapAt.TheVariants.{Idle, Interposed, Draining, Drained, Opening}
@@ -43,10 +44,10 @@ note_below k n true e fits =
 note_below k n false e fits = (leb-true n k.incarnation (rw e at fits), λ f. absurd (cc))
 
 -- mediators are behind only where COMPLETE is set
-behind_complete : (b : Bits) (layout incarnation : ℕ) (stage : SwapAt) → BitsFollow b layout incarnation stage
+behind_complete : (b : Bits) (shapes : List Shape) (layout incarnation : ℕ) (stage : SwapAt) → BitsFollow b shapes layout incarnation stage
     → (behind stage ≡ 0) ⊎ ((behind stage ≡ 1) × (b.complete ≡ true))
-behind_complete b layout incarnation (Opening o p) bits = inr (refl, bits.0.2)
-behind_complete b layout incarnation stage bits = inl refl
+behind_complete b shapes layout incarnation (Opening o p) bits = inr (refl, bits.0.2)
+behind_complete b shapes layout incarnation stage bits = inl refl
 
 note_entries : (procs callers : ℕ) (look : Outlook) (o n : ℕ) (k : Object) → IsObject procs callers look o k
     → fits_note k n ≡ true → (n ≤ look.incarnation) × NoneBelow n k.entries
@@ -58,7 +59,7 @@ note_entries procs callers look o n k is fits =
       λ p e at_p. by_test p e (is_mediated look.stage p) (is.entries_follow p e at_p),
     )
   where
-    by_test : (p : ℕ) (e : LocalEntry) (b : Bool) → MatchBool b (IsMediator look.incarnation (behind look.stage) e) (IsOpen look.incarnation k.layout p e)
+    by_test : (p : ℕ) (e : LocalEntry) (b : Bool) → MatchBool b (IsMediator look.incarnation (behind look.stage) e) (IsOpen look.incarnation k.shapes k.layout p e)
         → n ≤ e.incarnation
     by_test p e false m =
         let least = (note_below k n k.complete refl fits).0 in omega (arith, least, m.number, is.bits_follow.incarnation)
@@ -66,7 +67,7 @@ note_entries procs callers look o n k is fits =
         ⊎_elim
         (λ none. let least = (note_below k n k.complete refl fits).0 in omega (arith, none, least, m.number, is.bits_follow.incarnation))
         (λ one. let less = (note_below k n k.complete refl fits).1 one.1 in let far = one.0 in omega (arith, far, less, m.number, is.bits_follow.incarnation))
-        (behind_complete (bits_of k) k.layout k.incarnation look.stage is.bits_follow.bits)
+        (behind_complete (bits_of k) k.shapes k.layout k.incarnation look.stage is.bits_follow.bits)
 
 -- what is shared once the notes are those of a new holder
 abbrev pub noting : (ℕ → Outlook) → List (Option ℕ) → ℕ → Outlook
@@ -140,6 +141,7 @@ module _ (scene : Scene) (s : Phases) (h : IsInScene scene s) (free : s.turns.ro
           bits = old.bits_follow.bits;
           last = old.bits_follow.last;
           layout = old.bits_follow.layout;
+          few = old.bits_follow.few;
         };
         within = old.within;
         many_entries = old.many_entries;
@@ -274,6 +276,7 @@ module _ (scene : Scene) (s : Phases) (h : IsInScene scene s) (free : s.turns.ro
             bits = rw stage at old.bits_follow.bits;
             last = old.bits_follow.last;
             layout = old.bits_follow.layout;
+            few = old.bits_follow.few;
           };
           within = tt;
           many_entries = old.many_entries;

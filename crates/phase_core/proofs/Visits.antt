@@ -121,15 +121,15 @@ module _ (scene : Scene) (s : Phases) (h : IsInScene scene s) (c : ℕ) (g : Cal
     object : IsObject scene.course.procs scene.course.callers (scene.looks o) o k
     object = h.objects o k at_o
 
-    entry : IsEntry (scene.looks o).stage (scene.looks o).incarnation k.layout g.proc e
+    entry : IsEntry (scene.looks o).stage (scene.looks o).incarnation k.shapes k.layout g.proc e
     entry = object.entries_follow g.proc e at_p
 
     -- the row of an entry may be read
     pub entry_readable : IsReadable (scene.looks o) e.incarnation
     entry_readable = record {
       kept = object.freed_rows.freed_entries g.proc e at_p;
-      recent = entry_recent (scene.looks o).stage (scene.looks o).incarnation k.layout g.proc e entry;
-      present = entry_closed (scene.looks o).stage (scene.looks o).incarnation k.layout g.proc e entry;
+      recent = entry_recent (scene.looks o).stage (scene.looks o).incarnation k.shapes k.layout g.proc e entry;
+      present = entry_closed (scene.looks o).stage (scene.looks o).incarnation k.shapes k.layout g.proc e entry;
       noted = λ n noted. object.freed_rows.noted_entries n noted g.proc e at_p;
     }
 
@@ -138,7 +138,7 @@ module _ (scene : Scene) (s : Phases) (h : IsInScene scene s) (c : ℕ) (g : Cal
 
     -- where a look-up leads
     found_by : (b : Bool) → is_mediated (scene.looks o).stage g.proc ≡ b
-        → MatchBool b (IsMediator (scene.looks o).incarnation (behind (scene.looks o).stage) e) (IsOpen (scene.looks o).incarnation k.layout g.proc e)
+        → MatchBool b (IsMediator (scene.looks o).incarnation (behind (scene.looks o).stage) e) (IsOpen (scene.looks o).incarnation k.shapes k.layout g.proc e)
         → ((q : ℕ) → counts_at (place_found e.tag o e.incarnation) q ≡ false)
         × IsAtPlace scene g (with_row x.read o e.incarnation) (place_found e.tag o e.incarnation)
     found_by true mediated is = rw is.tag ((λ q. refl), object_there)
@@ -162,15 +162,15 @@ module _ (scene : Scene) (s : Phases) (h : IsInScene scene s) (c : ℕ) (g : Cal
 
     -- the entry that was missed is still empty
     keeps_direct : (i : ℕ) → x.place ≡ Missed o i → e.tag ≡ 0
-        → IsInScene scene (put_object (put_visitor s c (at_place x (Direct o i))) o (put_entry k g.proc (direct_entry k.layout g.proc i)))
+        → IsInScene scene (put_object (put_visitor s c (at_place x (Direct o i))) o (put_entry k g.proc (direct_entry k.shapes k.layout g.proc i)))
     keeps_direct i missed empty =
         let placed = rw missed at known.at_place in
         let inside = placed.1 in
         let unmediated : is_mediated (scene.looks o).stage g.proc ≡ false = not_mediated (is_mediated (scene.looks o).stage g.proc) refl entry in
-        keeps_visit (Direct o i) x.read (set s.objects o (put_entry k g.proc (direct_entry k.layout g.proc i)))
+        keeps_visit (Direct o i) x.read (set s.objects o (put_entry k g.proc (direct_entry k.shapes k.layout g.proc i)))
         (length-set s.objects o _ ∙ h.many_objects)
         (EachPlace-set (λ q l. IsObject scene.course.procs scene.course.callers (scene.looks q) q l) s.objects o _ h.objects
-        (IsObject-entry scene.course.procs scene.course.callers (scene.looks o) o k object g.proc (direct_entry k.layout g.proc i)
+        (IsObject-entry scene.course.procs scene.course.callers (scene.looks o) o k object g.proc (direct_entry k.shapes k.layout g.proc i)
         (rw unmediated (record { tagged = inr (refl, refl, refl); number = inside.present }))
         (let least = object.freed_rows.freed in omega (arith, least, inside.present))
         (λ n noted. let least = object.freed_rows.noted n noted in omega (arith, least, inside.present))))
@@ -183,13 +183,13 @@ module _ (scene : Scene) (s : Phases) (h : IsInScene scene s) (c : ℕ) (g : Cal
         known.read_once
       where
         not_mediated : (b : Bool) → is_mediated (scene.looks o).stage g.proc ≡ b
-            → MatchBool b (IsMediator (scene.looks o).incarnation (behind (scene.looks o).stage) e) (IsOpen (scene.looks o).incarnation k.layout g.proc e)
+            → MatchBool b (IsMediator (scene.looks o).incarnation (behind (scene.looks o).stage) e) (IsOpen (scene.looks o).incarnation k.shapes k.layout g.proc e)
             → is_mediated (scene.looks o).stage g.proc ≡ false
         not_mediated true mediated is = let two = is.tag in absurd (cc)
         not_mediated false mediated is = mediated
 
     pub keeps_installed : (i : ℕ) → x.place ≡ Missed o i → (b : Bool) → is_empty_at e i ≡ b
-        → IsInScene scene (cond b (put_object (put_visitor s c (at_place x (Direct o i))) o (put_entry k g.proc (direct_entry k.layout g.proc i))) (put_visitor s c (at_place x Out)))
+        → IsInScene scene (cond b (put_object (put_visitor s c (at_place x (Direct o i))) o (put_entry k g.proc (direct_entry k.shapes k.layout g.proc i))) (put_visitor s c (at_place x Out)))
     keeps_installed i missed true empty = keeps_direct i missed (eqb-true e.tag 0 (and_parts _ _ empty).0)
     keeps_installed i missed false other = keeps_out (λ q. rw missed refl)
 
@@ -244,7 +244,7 @@ module _ (scene : Scene) (s : Phases) (h : IsInScene scene s) (c : ℕ) (g : Cal
         (λ inactive. let out = (known.at_rest inactive).0 in absurd (cc)) (
           (rw knocks at known.at_place),
           record { read = with_row_here x.read o k.incarnation; present = same },
-          moved_blocks (bits_of k) k.layout k.incarnation (scene.looks o).stage object'.bits_follow.bits free,
+          moved_blocks (bits_of k) k.shapes k.layout k.incarnation (scene.looks o).stage object'.bits_follow.bits free,
         )
         (rows_with o k.incarnation (record {
           kept = let least = object'.freed_rows.freed in omega (arith, least, same);

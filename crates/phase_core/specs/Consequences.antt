@@ -1,6 +1,7 @@
 -- What follows in every sound state, and of each event.
 use Rattle.std.specs.Prelude.{ℕ, ◌≡◌, ◌≢◌, ◌<◌, ◌≤◌, true, Option, Some, None, length}
 use Rattle.k42_limits.specs.declared.TheConstants.{LAST_INCARNATION}
+use Rattle.k42_shapes.specs.Shapes.{IsLiveTag}
 use Rattle.gen_core.specs.State.{proc_at, caller_at}
 use Rattle.phase_core.specs.Event.{Event, LookUp, Install, Knock, StepOut, Begin, Interpose, Block, Move, TurnOver, Unblock, Open, Clear, Free}
 use Rattle.phase_core.specs.Plain.{Object, Phases}
@@ -39,6 +40,10 @@ pub record NeverFalls (s t : Phases) : Type 0 where
   pub incarnations : (o : ℕ) → (object_at s o).incarnation ≤ (object_at t o).incarnation
   pub freed : (o : ℕ) → (object_at s o).freed ≤ (object_at t o).freed
 
+-- the layouts of each object stay
+abbrev pub KeepsShapes : Phases → Phases → Type 0
+KeepsShapes s t = (o : ℕ) → (object_at t o).shapes ≡ (object_at s o).shapes
+
 -- by the event the object's swapper takes it to its next incarnation
 abbrev pub TurnsOver : Phases → Event → ℕ → Type 0
 TurnsOver s (TurnOver c layout) o = (visitor_at s c).swap ≡ Moved o
@@ -66,7 +71,7 @@ pub record HasOneSwap (s : Phases) (o : ℕ) : Type 0 where
 
 -- the object is alive, has a next incarnation, and all its former rows are freed
 pub record IsReadyToMove (k : Object) : Type 0 where
-  pub alive : k.layout < 2
+  pub alive : IsLiveTag k.shapes k.layout
   pub next : k.incarnation < LAST_INCARNATION
   pub freed : k.freed ≡ k.incarnation
 

@@ -1,6 +1,8 @@
 -- What an event does to one caller and to one object.
 use Rattle.std.specs.Prelude.{ℕ, Bool, List, Option, false, ◌&&◌, ◌==◌, if◌then◌else◌, [], ◌+◌, ◌-◌, true, ◌||◌, nat_lt, length, replicate}
 use Rattle.k42_limits.specs.declared.TheConstants.{LAST_INCARNATION}
+use Rattle.k42_shapes.specs.declared.shape.Shape.{Shape}
+use Rattle.k42_shapes.specs.Shapes.{cell_called, is_dead_tag, shape_at}
 use Rattle.gen_core.specs.declared.event.GenEvent.{GenEvent}
 use Rattle.gen_core.specs.declared.event.GenEvent.TheVariants.{Leave, Look, GiveRole}
 use Rattle.gen_core.specs.declared.state.GraceAt.{GraceAt}
@@ -13,9 +15,9 @@ use Rattle.phase_core.specs.declared.caller.SwapAt.{SwapAt}
 use Rattle.phase_core.specs.declared.caller.SwapAt.TheVariants.{Refused, Begun, Interposing, Interposed, Draining, Drained, Opening, Reopening, Opened}
 use Rattle.phase_core.specs.declared.object.LocalEntry.{LocalEntry}
 
--- the cell that a layout's root names for a processor
-abbrev pub root_of : ℕ → ℕ → ℕ
-root_of layout p = if layout == 1 then p else 0
+-- the cell that the root of a layout names for a processor, by the shapes of the object's live layouts
+abbrev pub root_of : List Shape → ℕ → ℕ → ℕ
+root_of shapes layout p = cell_called (shape_at shapes layout) p
 
 abbrev pub at_place : Visitor → Place → Visitor
 at_place x place = record x { place = place }
@@ -37,8 +39,12 @@ looked_up x o e = at_row x o e.incarnation (place_found e.tag o e.incarnation)
 abbrev pub is_empty_at : LocalEntry → ℕ → Bool
 is_empty_at e i = (e.tag == 0) && (e.incarnation == i)
 
-abbrev pub direct_entry : ℕ → ℕ → ℕ → LocalEntry
-direct_entry layout p i = record { tag = 1; layout = layout; cell = root_of layout p; incarnation = i }
+-- an entry that leads to a cell of a row with the layout, and one that leads where its root does
+abbrev pub entry_to : ℕ → ℕ → ℕ → LocalEntry
+entry_to layout cell i = record { tag = 1; layout = layout; cell = cell; incarnation = i }
+
+abbrev pub direct_entry : List Shape → ℕ → ℕ → ℕ → LocalEntry
+direct_entry shapes layout p i = entry_to layout (root_of shapes layout p) i
 
 abbrev pub knocked : Visitor → ℕ → ℕ → Bool → Visitor
 knocked x o i true = at_place x (Blocked o)
@@ -52,7 +58,7 @@ counted_out k = record k { count = k.count - 1 }
 
 -- dead, or at its last incarnation
 abbrev pub is_over : Object → Bool
-is_over k = (k.layout == 2) || (k.incarnation == LAST_INCARNATION)
+is_over k = is_dead_tag k.shapes k.layout || (k.incarnation == LAST_INCARNATION)
 
 abbrev pub begun_as : ℕ → Bool → SwapAt
 begun_as o true = Refused o

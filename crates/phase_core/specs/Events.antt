@@ -36,7 +36,7 @@ installed s c o =
     let p = proc_of s c in
     let i = row_of x.place in
     if is_empty_at (entry_at k p) i
-    then put_object (put_visitor s c (at_place x (Direct o i))) o (put_entry k p (direct_entry k.layout p i))
+    then put_object (put_visitor s c (at_place x (Direct o i))) o (put_entry k p (direct_entry k.shapes k.layout p i))
     else put_visitor s c (at_place x Out)
 
 abbrev pub begun : Phases → ℕ → ℕ → Phases
@@ -140,7 +140,9 @@ is_possible s (Begin c o) = turns.is_free (caller_at s.turns c) && is_idle (visi
 is_possible s (Interpose c) = is_interposing (visitor_at s c).swap
 is_possible s (Block c) = turns.is_idle (caller_at s.turns c).grace && is_drained (visitor_at s c).swap
 is_possible s (Move c) = is_blocking (visitor_at s c).swap
-is_possible s (TurnOver c layout) = is_moved (visitor_at s c).swap && nat_le layout 2
+is_possible s (TurnOver c layout) =
+    is_moved (visitor_at s c).swap
+    && nat_le layout (length (object_at s (object_named (visitor_at s c).swap)).shapes)
 is_possible s (Unblock c) = is_moved (visitor_at s c).swap
 is_possible s (Open c) = is_opening (visitor_at s c).swap
 is_possible s (Clear c) = is_ended (visitor_at s c).swap

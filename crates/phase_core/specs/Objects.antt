@@ -1,7 +1,9 @@
 -- What stays true of an object: its bits and its entries follow its swap, its count, and its freed rows.
 use Rattle.std.specs.Bool.{MatchBool}
 use Rattle.std.specs.Prelude.{ℕ, Bool, List, Option, false, ◌==◌, None, count_by, ◌+◌, ◌<◌, true, Some, length, is_some, ◌≡◌, ◌≤◌, ◌⊎◌}
-use Rattle.k42_limits.specs.declared.TheConstants.{LAST_INCARNATION}
+use Rattle.k42_limits.specs.declared.TheConstants.{LAST_INCARNATION, LIVE_LAYOUTS}
+use Rattle.k42_shapes.specs.declared.shape.Shape.{Shape}
+use Rattle.k42_shapes.specs.Shapes.{IsKnownTag, IsLiveTag}
 use Rattle.k42_places.specs.Places.{EachPlace}
 use Rattle.phase_core.specs.Effects.{root_of}
 use Rattle.phase_core.specs.Outlooks.{Outlook, is_mediated, behind}
@@ -28,26 +30,26 @@ abbrev pub AreClear : Bits → Type 0
 AreClear b = (b.block ≡ false) × (b.moving ≡ false) × (b.complete ≡ false)
 
 -- neither dead nor at the last incarnation
-abbrev pub IsLive : ℕ → ℕ → Type 0
-IsLive layout incarnation = (layout < 2) × (incarnation < LAST_INCARNATION)
+abbrev pub IsLive : List Shape → ℕ → ℕ → Type 0
+IsLive shapes layout incarnation = IsLiveTag shapes layout × (incarnation < LAST_INCARNATION)
 
 -- the bits, the layout and the incarnation of an object whose swap is at a stage
-abbrev pub BitsFollow : Bits → ℕ → ℕ → SwapAt → Type 0
-BitsFollow b layout incarnation Idle = AreClear b
-BitsFollow b layout incarnation (Refused o) = AreClear b × ((layout ≡ 2) ⊎ (incarnation ≡ LAST_INCARNATION))
-BitsFollow b layout incarnation (Begun o) = AreClear b × IsLive layout incarnation
-BitsFollow b layout incarnation (Interposing o p) = AreClear b × IsLive layout incarnation
-BitsFollow b layout incarnation (Interposed o) = AreClear b × IsLive layout incarnation
-BitsFollow b layout incarnation (Draining o) = AreClear b × IsLive layout incarnation
-BitsFollow b layout incarnation (Drained o) = AreClear b × IsLive layout incarnation
-BitsFollow b layout incarnation (Blocking o) =
-    ((b.block ≡ true) × (b.moving ≡ false) × (b.complete ≡ false)) × IsLive layout incarnation
-BitsFollow b layout incarnation (Moved o) =
-    ((b.block ≡ true) × (b.moving ≡ true) × (b.complete ≡ false)) × IsLive layout incarnation
-BitsFollow b layout incarnation (Opening o p) =
+abbrev pub BitsFollow : Bits → List Shape → ℕ → ℕ → SwapAt → Type 0
+BitsFollow b shapes layout incarnation Idle = AreClear b
+BitsFollow b shapes layout incarnation (Refused o) = AreClear b × ((layout ≡ length shapes) ⊎ (incarnation ≡ LAST_INCARNATION))
+BitsFollow b shapes layout incarnation (Begun o) = AreClear b × IsLive shapes layout incarnation
+BitsFollow b shapes layout incarnation (Interposing o p) = AreClear b × IsLive shapes layout incarnation
+BitsFollow b shapes layout incarnation (Interposed o) = AreClear b × IsLive shapes layout incarnation
+BitsFollow b shapes layout incarnation (Draining o) = AreClear b × IsLive shapes layout incarnation
+BitsFollow b shapes layout incarnation (Drained o) = AreClear b × IsLive shapes layout incarnation
+BitsFollow b shapes layout incarnation (Blocking o) =
+    ((b.block ≡ true) × (b.moving ≡ false) × (b.complete ≡ false)) × IsLive shapes layout incarnation
+BitsFollow b shapes layout incarnation (Moved o) =
+    ((b.block ≡ true) × (b.moving ≡ true) × (b.complete ≡ false)) × IsLive shapes layout incarnation
+BitsFollow b shapes layout incarnation (Opening o p) =
     ((b.block ≡ false) × (b.moving ≡ false) × (b.complete ≡ true)) × (0 < incarnation)
-BitsFollow b layout incarnation (Reopening o p) = AreClear b
-BitsFollow b layout incarnation (Opened o) =
+BitsFollow b shapes layout incarnation (Reopening o p) = AreClear b
+BitsFollow b shapes layout incarnation (Opened o) =
     AreClear b ⊎ (((b.block ≡ false) × (b.moving ≡ false) × (b.complete ≡ true)) × (0 < incarnation))
 
 -- SWAP is set where there is a swapper, whose stage names the object
@@ -61,9 +63,10 @@ pub record BitsFollowSwap (callers : ℕ) (look : Outlook) (o : ℕ) (k : Object
   pub swap : k.swap ≡ is_some look.swapper
   pub named : IsNamed look.swapper look.stage o
   pub swapper_there : (d : ℕ) → look.swapper ≡ Some d → d < callers
-  pub bits : BitsFollow (bits_of k) k.layout k.incarnation look.stage
+  pub bits : BitsFollow (bits_of k) k.shapes k.layout k.incarnation look.stage
   pub last : k.incarnation ≤ LAST_INCARNATION
-  pub layout : k.layout ≤ 2
+  pub layout : IsKnownTag k.shapes k.layout
+  pub few : length k.shapes ≤ LIVE_LAYOUTS
 
 -- entries follow the swap
 
@@ -73,18 +76,18 @@ pub record IsMediator (incarnation less : ℕ) (e : LocalEntry) : Type 0 where
   pub number : e.incarnation + less ≡ incarnation
 
 -- empty, or direct with the object's layout and the cell that its root names
-abbrev pub IsTagged : ℕ → ℕ → LocalEntry → Type 0
-IsTagged layout p e =
+abbrev pub IsTagged : List Shape → ℕ → ℕ → LocalEntry → Type 0
+IsTagged shapes layout p e =
     ((e.tag ≡ 0) × (e.layout ≡ 0) × (e.cell ≡ 0))
-    ⊎ ((e.tag ≡ 1) × (e.layout ≡ layout) × (e.cell ≡ root_of layout p))
+    ⊎ ((e.tag ≡ 1) × (e.layout ≡ layout) × (e.cell ≡ root_of shapes layout p))
 
-pub record IsOpen (incarnation layout p : ℕ) (e : LocalEntry) : Type 0 where
-  pub tagged : IsTagged layout p e
+pub record IsOpen (incarnation : ℕ) (shapes : List Shape) (layout p : ℕ) (e : LocalEntry) : Type 0 where
+  pub tagged : IsTagged shapes layout p e
   pub number : e.incarnation ≡ incarnation
 
-abbrev pub IsEntry : SwapAt → ℕ → ℕ → ℕ → LocalEntry → Type 0
-IsEntry stage incarnation layout p e =
-    MatchBool (is_mediated stage p) (IsMediator incarnation (behind stage) e) (IsOpen incarnation layout p e)
+abbrev pub IsEntry : SwapAt → ℕ → List Shape → ℕ → ℕ → LocalEntry → Type 0
+IsEntry stage incarnation shapes layout p e =
+    MatchBool (is_mediated stage p) (IsMediator incarnation (behind stage) e) (IsOpen incarnation shapes layout p e)
 
 -- freed and noted rows
 
@@ -119,7 +122,7 @@ pub record IsObject (procs callers : ℕ) (look : Outlook) (o : ℕ) (k : Object
   pub bits_follow : BitsFollowSwap callers look o k
   pub within : IsWithin procs look.stage
   pub many_entries : length k.entries ≡ procs
-  pub entries_follow : EachPlace (IsEntry look.stage look.incarnation k.layout) k.entries
+  pub entries_follow : EachPlace (IsEntry look.stage look.incarnation k.shapes k.layout) k.entries
   pub freed_rows : IsFreed look k.entries
 
 abbrev pub counts_at : Place → ℕ → Bool

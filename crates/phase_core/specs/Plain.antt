@@ -1,11 +1,19 @@
 -- The state as contracts see it: the fields of the code, with plain lists.
 use Rattle.std.specs.Prelude.{ℕ, Bool, List, Option}
+use Rattle.k42_shapes.specs.declared.shape.Shape.{Shape}
 use Rattle.gen_core.specs.Plain.{Generations}
 use Rattle.phase_core.specs.declared.caller.Place.{Place}
 use Rattle.phase_core.specs.declared.caller.SwapAt.{SwapAt}
 use Rattle.phase_core.specs.declared.object.LocalEntry.{LocalEntry}
 
+-- what an object starts with: the shapes of its live layouts, and one of its layouts
+pub record ObjectPlan : Type 0 where
+  pub shapes : List Shape
+  pub layout : ℕ
+
 pub record Object : Type 0 where
+  -- those of its live layouts; they stay
+  pub shapes : List Shape
   pub count : ℕ
   pub swap : Bool
   pub block : Bool

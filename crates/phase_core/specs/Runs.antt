@@ -3,7 +3,7 @@ use Rattle.std.specs.Prelude.{ℕ, List, ◌++◌, [], ◌∷◌, ◌<◌, true,
 use Rattle.gen_core.specs.declared.event.GenEvent.TheVariants.{Leave}
 use Rattle.phase_core.specs.Event.{Event, caller_of, NamesObjects, Turn}
 use Rattle.phase_core.specs.Events.{is_possible, happens}
-use Rattle.phase_core.specs.Plain.{Phases}
+use Rattle.phase_core.specs.Plain.{ObjectPlan, Phases}
 use Rattle.phase_core.specs.State.{visitor_at, has_row, new_phases, IsPlan}
 
 -- the state after each of the events in turn
@@ -20,12 +20,12 @@ AreInRange callers objects (event ∷ events) =
 -- a list of events leads to s from a new state
 pub record IsReached (s : Phases) : Type 0 where
   pub procs : ℕ
-  pub layouts : List ℕ
+  pub plans : List ObjectPlan
   pub callers : List ℕ
   pub events : List Event
-  pub plan : IsPlan procs layouts callers
-  pub in_range : AreInRange (length callers) (length layouts) events
-  pub result : s ≡ run events (new_phases procs layouts callers)
+  pub plan : IsPlan procs plans callers
+  pub in_range : AreInRange (length callers) (length plans) events
+  pub result : s ≡ run events (new_phases procs plans callers)
 
 -- the event stands among the events that come from s, and was possible where it stands
 pub record Occurs (event : Event) (events : List Event) (s : Phases) : Type 0 where

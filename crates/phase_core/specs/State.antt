@@ -1,11 +1,12 @@
 -- Reading and changing one place of a state, and the state that was just made.
 use Rattle.std.specs.List.{list_any}
 use Rattle.std.specs.Prelude.{ℕ, Bool, List, Option, false, ◌&&◌, ◌==◌, ◌++◌, if◌then◌else◌, [], ◌∷◌, None, slice_index_or, slice_set, count_by, ◌<◌, length, replicate, ◌≤◌, map}
-use Rattle.k42_limits.specs.declared.TheConstants.{OBJECTS}
+use Rattle.k42_limits.specs.declared.TheConstants.{LIVE_LAYOUTS, OBJECTS}
+use Rattle.k42_shapes.specs.Shapes.{IsKnownTag, shared_and_spread}
 use Rattle.k42_places.specs.Places.{EachPlace}
 use Rattle.gen_core.specs.State as turns
 use Rattle.gen_core.specs.State.{caller_at}
-use Rattle.phase_core.specs.Plain.{Object, Visitor, Phases}
+use Rattle.phase_core.specs.Plain.{ObjectPlan, Object, Visitor, Phases}
 use Rattle.phase_core.specs.declared.caller.Place.TheVariants.{Out}
 use Rattle.phase_core.specs.declared.caller.SwapAt.TheVariants.{Idle}
 use Rattle.phase_core.specs.declared.object.LocalEntry.{LocalEntry}
@@ -19,6 +20,7 @@ mediator_entry i = record { tag = 2; layout = 0; cell = 0; incarnation = i }
 
 abbrev pub fresh_object : Object
 fresh_object = record {
+  shapes = [];
   count = 0;
   swap = false;
   block = false;
@@ -74,14 +76,15 @@ times rows o i = count_by (λ r. (r.0 == o) && (r.1 == i)) rows
 abbrev pub with_row : List (ℕ × ℕ) → ℕ → ℕ → List (ℕ × ℕ)
 with_row rows o i = if has_row rows o i then rows else rows ++ (o, i) ∷ []
 
-abbrev pub new_object : ℕ → ℕ → Object
-new_object procs layout = record {
+abbrev pub new_object : ℕ → ObjectPlan → Object
+new_object procs plan = record {
+  shapes = plan.shapes;
   count = 0;
   swap = false;
   block = false;
   moving = false;
   complete = false;
-  layout = layout;
+  layout = plan.layout;
   incarnation = 0;
   entries = replicate procs (empty_entry 0);
   freed = 0;
@@ -96,17 +99,22 @@ new_visitor objects = record {
   swap = Idle;
 }
 
--- so many processors, an object of each layout, and a caller on each processor that is named
-abbrev pub new_phases : ℕ → List ℕ → List ℕ → Phases
-new_phases procs layouts callers = record {
+-- an object that is shared, spread, or dead
+abbrev pub of_two : ℕ → ObjectPlan
+of_two layout = record { shapes = shared_and_spread; layout = layout }
+
+-- so many processors, an object of each plan, and a caller on each processor that is named
+abbrev pub new_phases : ℕ → List ObjectPlan → List ℕ → Phases
+new_phases procs plans callers = record {
   turns = turns.fresh procs callers;
-  objects = map (new_object procs) layouts;
-  callers = replicate (length callers) (new_visitor (length layouts));
+  objects = map (new_object procs) plans;
+  callers = replicate (length callers) (new_visitor (length plans));
 }
 
--- so many processors, objects of layouts that there are, and callers on processors that are there
-pub record IsPlan (procs : ℕ) (layouts callers : List ℕ) : Type 0 where
+-- so many processors, objects of layouts that they have, and callers on processors that are there
+pub record IsPlan (procs : ℕ) (plans : List ObjectPlan) (callers : List ℕ) : Type 0 where
   pub turns : turns.IsPlan procs callers
-  pub some_objects : 0 < length layouts
-  pub few_objects : length layouts ≤ OBJECTS
-  pub known_layouts : EachPlace (λ o layout. layout ≤ 2) layouts
+  pub some_objects : 0 < length plans
+  pub few_objects : length plans ≤ OBJECTS
+  pub known_layouts : EachPlace (λ o plan. IsKnownTag plan.shapes plan.layout) plans
+  pub few_layouts : EachPlace (λ o plan. length plan.shapes ≤ LIVE_LAYOUTS) plans

@@ -72,8 +72,8 @@ pub(crate) fn install(state: &mut PhaseState, c: u32, o: u32) -> bool
     }
     let entry = state.entry(o as usize, p as usize);
     if entry.tag == 0 && entry.incarnation == row {
-        let layout = state.word(o as usize).layout;
-        state.set_entry(o as usize, p as usize, LocalEntry::direct(layout, p, row));
+        let direct = state.direct(o as usize, p, row);
+        state.set_entry(o as usize, p as usize, direct);
         state.set_place(c as usize, Place::Direct(o, row));
     } else {
         state.set_place(c as usize, Place::Out);

@@ -8,7 +8,7 @@ ghost use Rattle.phase_core.specs.Events.{is_possible, effect, happens};
 ghost use Rattle.phase_core.specs.Objects.{many_counted};
 ghost use Rattle.phase_core.specs.Sound.{IsSound};
 ghost use Rattle.phase_core.specs.Runs.{run, IsReached, AreInRange, HasRead, HasLeft};
-ghost use Rattle.phase_core.specs.Consequences.{object_changed, LeavesOthers, NeverFalls, TurnsOver, IsSameRow, ReadsRow, HasOneSwap, IsReadyToMove, FreesRow};
+ghost use Rattle.phase_core.specs.Consequences.{object_changed, LeavesOthers, NeverFalls, KeepsShapes, TurnsOver, IsSameRow, ReadsRow, HasOneSwap, IsReadyToMove, FreesRow};
 ghost use Rattle.phase_core.specs.declared.caller.SwapAt.TheVariants.{Moved};
 
 /// Whatever events come, every fact of the invariant holds.
@@ -81,4 +81,9 @@ pub fn nothing_falls()
 pub fn row_stays()
     ensures { (s : Phases) (event : Event) (o : ℕ) → ¬ TurnsOver s event o
         → IsSameRow (object_at s o) (object_at (happens s event) o) }
+{}
+
+/// No event gives an object other layouts.
+pub fn shapes_stay()
+    ensures { (s : Phases) (event : Event) → KeepsShapes s (happens s event) }
 {}

@@ -1,10 +1,12 @@
 //! What the machine keeps of one object, and the entries of the processors.
 ghost use Rattle.std.specs.Prelude.{◌≡◌};
+ghost use Rattle.k42_shapes.specs.Shapes.{shape_at};
 ghost use Rattle.phase_core.specs.State.{empty_entry, mediator_entry};
 ghost use Rattle.phase_core.specs.Effects.{direct_entry};
 ghost use Rattle.phase_core.specs.Notes.{fits_note};
 ghost use Rattle.phase_core.specs.Words.{word_of, with_word};
 
+use k42_shapes::Shape;
 use std::marker::Model;
 
 /// What the table of a processor has for one object.
@@ -41,21 +43,50 @@ impl LocalEntry {
         }
     }
 
-    pub(crate) fn direct(layout: u32, proc: u32, incarnation: u32) -> LocalEntry
-        ensures { result ≡ direct_entry layout proc incarnation }
+    pub(crate) fn direct(shapes: &[Shape], layout: u32, proc: u32, incarnation: u32) -> LocalEntry
+        ensures { result ≡ direct_entry shapes.now layout proc incarnation }
     {
         LocalEntry {
             tag: 1,
             layout,
-            cell: if layout == 1 { proc } else { 0 },
+            cell: shape_named(shapes, layout).cell_called(proc),
             incarnation,
         }
     }
 }
 
+/// The shape of the layout of that number. A dead object has one cell.
+fn shape_named(shapes: &[Shape], layout: u32) -> Shape
+    ensures { result ≡ shape_at shapes.now layout }
+{
+    match shapes.get(layout as usize) {
+        Some(shape) => *shape,
+        None => Shape::One,
+    }
+}
+
+/// What an object starts with.
+#[derive(Debug, Drop)]
+pub struct ObjectPlan {
+    /// The shapes of its live layouts, by their numbers.
+    pub shapes: Vec<Shape>,
+    /// The number of one of them, or the next one, of an object that is dead.
+    pub layout: u32,
+}
+
+impl Model for ObjectPlan {
+    ghost use Rattle.phase_core.specs.Plain as plain;
+
+    ghost Value = { plain.ObjectPlan };
+
+    ghost view = { λ p. record { shapes = p.shapes.items; layout = p.layout } };
+}
+
 /// One object: its bits, its present row, and what the processors have for it.
 #[derive(Debug, Drop)]
 pub struct PhaseObject {
+    /// Those of its live layouts, by their numbers.
+    pub shapes: Vec<Shape>,
     /// How many callers are counted at the mediator.
     pub count: u32,
     /// A swap is under way.
@@ -66,7 +97,7 @@ pub struct PhaseObject {
     pub moving: bool,
     /// The next implementation is there.
     pub complete: bool,
-    /// 0 where it is shared, 1 where it is spread, 2 where it is dead.
+    /// The number of its present layout, or the one behind those of the live ones where it is dead.
     pub layout: u32,
     pub incarnation: u32,
     /// One for each processor.
@@ -81,6 +112,7 @@ impl Model for PhaseObject {
     ghost Value = { Object };
 
     ghost view = { λ k. record {
+      shapes = k.shapes.items;
       count = k.count;
       swap = k.swap;
       block = k.block;

@@ -5,23 +5,24 @@ ghost use Rattle.phase_core.specs.State.{new_object, new_visitor, new_phases, Is
 ghost use Rattle.phase_core.specs.Sound.{IsSound};
 
 use crate::caller::{PhaseCaller, Place, SwapAt};
-use crate::object::{LocalEntry, PhaseObject};
+use crate::object::{LocalEntry, ObjectPlan, PhaseObject};
 use crate::state::PhaseState;
 use gen_core::GenState;
 use k42_memory::Memory;
 use std::alloc::Global;
 
-fn new_object(alloc: Global, procs: u32, layout: u32) -> Result<PhaseObject, Memory>
-    ensures { IfOk result (λ k. k ≡ new_object procs layout) }
+fn new_object(alloc: Global, procs: u32, plan: ObjectPlan) -> Result<PhaseObject, Memory>
+    ensures { IfOk result (λ k. k ≡ new_object procs plan) }
 {
     let entry = LocalEntry::empty(0);
     Ok(PhaseObject {
+        shapes: plan.shapes,
         count: 0,
         swap: false,
         block: false,
         moving: false,
         complete: false,
-        layout,
+        layout: plan.layout,
         incarnation: 0,
         entries: vec![in alloc; entry; procs as usize]?,
         freed: 0,
@@ -41,12 +42,16 @@ fn new_caller(alloc: Global, objects: usize) -> Result<PhaseCaller, Memory>
     })
 }
 
-fn new_objects(alloc: Global, procs: u32, layouts: &[u32]) -> Result<Vec<PhaseObject>, Memory>
-    ensures { IfOk result (λ v. v.items ≡ map (new_object procs) layouts.now) }
+fn new_objects(
+    alloc: Global,
+    procs: u32,
+    plans: Vec<ObjectPlan>,
+) -> Result<Vec<PhaseObject>, Memory>
+    ensures { IfOk result (λ v. v.items ≡ map (new_object procs) plans.items) }
 {
-    let mut list = Vec::with_capacity(alloc, layouts.len())?;
-    for layout in layouts {
-        list.push(new_object(alloc, procs, *layout)?)?;
+    let mut list = Vec::with_capacity(alloc, plans.len())?;
+    for plan in plans {
+        list.push(new_object(alloc, procs, plan)?)?;
     }
     Ok(list)
 }
@@ -63,21 +68,20 @@ fn new_callers(alloc: Global, count: usize, objects: usize) -> Result<Vec<PhaseC
 }
 
 impl PhaseState {
-    /// A state in which nobody has entered. The objects are given by their layouts, the callers by
-    /// their processors.
+    /// A state in which nobody has entered. The callers are given by their processors.
     pub fn new(
         alloc: Global,
         procs: u32,
-        layouts: Vec<u32>,
+        plans: Vec<ObjectPlan>,
         callers: Vec<u32>,
     ) -> Result<PhaseState, Memory>
-        requires { IsPlan procs layouts.items callers.items }
-        ensures new { IfOk result (λ s. s ≡ new_phases procs layouts.items callers.items) }
+        requires { IsPlan procs plans.items callers.items }
+        ensures new { IfOk result (λ s. s ≡ new_phases procs plans.items callers.items) }
         ensures sound { IfOk result IsSound }
     {
         Ok(PhaseState {
-            objects: new_objects(alloc, procs, &layouts)?,
-            callers: new_callers(alloc, callers.len(), layouts.len())?,
+            callers: new_callers(alloc, callers.len(), plans.len())?,
+            objects: new_objects(alloc, procs, plans)?,
             turns: GenState::new(alloc, procs, callers)?,
         })
     }

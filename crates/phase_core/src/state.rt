@@ -1,11 +1,12 @@
 //! The state of the machine, and the steps from which its events are made.
 ghost use Rattle.std.specs.Prelude.{◌≡◌, ℕ, ◌<◌, ◌≤◌, ◌*◌, length, slice_set, replicate, [], is_none};
+ghost use Rattle.k42_shapes.specs.Shapes.{is_dead_tag};
 ghost use Rattle.gen_core.specs.State.{caller_at};
 ghost use Rattle.phase_core.specs.Turns.{AreTurnsSound, turning, can_turn, turns_happened, put_turns};
 ghost use Rattle.phase_core.specs.Room.{HasRoomToTurn};
 ghost use Rattle.phase_core.specs.State.{object_at, visitor_at, note_at, entry_at, put_object, put_visitor, put_entry, with_row};
 ghost use Rattle.phase_core.specs.Words.{word_of, with_word};
-ghost use Rattle.phase_core.specs.Effects.{at_place, at_row, at_stage};
+ghost use Rattle.phase_core.specs.Effects.{at_place, at_row, at_stage, direct_entry};
 ghost use Rattle.phase_core.specs.Notes.{numbers_of};
 
 use crate::caller::{PhaseCaller, Place, SwapAt};
@@ -63,6 +64,30 @@ impl PhaseState {
         ensures { result ≡ (object_at self.now o).incarnation }
     {
         self.objects[o].incarnation
+    }
+
+    pub(crate) fn live_layouts(&self, o: usize) -> usize
+        requires { o < length self.now.objects }
+        ensures { result ≡ length (object_at self.now o).shapes }
+    {
+        self.objects[o].shapes.len()
+    }
+
+    pub(crate) fn is_dead(&self, o: usize) -> bool
+        requires { o < length self.now.objects }
+        ensures { result ≡ is_dead_tag (object_at self.now o).shapes (object_at self.now o).layout }
+    {
+        let object = &self.objects[o];
+        object.layout as usize == object.shapes.len()
+    }
+
+    /// The entry that leads to where the object's root does.
+    pub(crate) fn direct(&self, o: usize, proc: u32, incarnation: u32) -> LocalEntry
+        requires { o < length self.now.objects }
+        ensures { result ≡ direct_entry (object_at self.now o).shapes (object_at self.now o).layout proc incarnation }
+    {
+        let object = &self.objects[o];
+        LocalEntry::direct(object.shapes.as_slice(), object.layout, proc, incarnation)
     }
 
     pub(crate) fn entry(&self, o: usize, p: usize) -> LocalEntry

@@ -69,7 +69,7 @@ pub(crate) fn begin(state: &mut PhaseState, c: u32, o: u32) -> bool
     if word.swap {
         return true;
     }
-    let swap = if word.layout == 2 || word.incarnation == LAST_INCARNATION {
+    let swap = if state.is_dead(o as usize) || word.incarnation == LAST_INCARNATION {
         SwapAt::Refused(o)
     } else {
         SwapAt::Begun(o)
@@ -173,7 +173,7 @@ pub(crate) fn turn_over(state: &mut PhaseState, c: u32, layout: u32) -> bool
     let SwapAt::Moved(o) = state.caller(c as usize).swap else {
         return false;
     };
-    if layout > 2 {
+    if layout as usize > state.live_layouts(o as usize) {
         return false;
     }
     let word = state.word(o as usize);

@@ -1,14 +1,16 @@
 //! Calls, swaps and freed rows as events of the machine, each with the state that is due.
-ghost use Rattle.std.specs.Prelude.{◌≡◌, ◌<◌, nat_lt, [], ◌∷◌};
+ghost use Rattle.std.specs.Prelude.{◌≡◌, ◌<◌, ◌≤◌, nat_lt, map, length, [], ◌∷◌};
 ghost use Rattle.std.specs.Bool.{OnTrue};
 ghost use Rattle.std.specs.List.{All, list_all};
 ghost use Rattle.phase_core.specs.Event.{event_seen, caller_of, NamesObjects};
-ghost use Rattle.phase_core.specs.State.{new_phases, IsPlan};
+ghost use Rattle.phase_core.specs.State.{new_phases, of_two, IsPlan};
 ghost use Rattle.phase_core.specs.Sound.{IsSound};
+ghost use Rattle.phase_tests.specs.Plans.{plan_of};
 
 use gen_core::GenEvent;
-use k42_limits::LAST_INCARNATION;
-use phase_core::{LocalEntry, PhaseEvent, PhaseState, Place, SwapAt, apply, has_room};
+use k42_limits::{LAST_INCARNATION, LIVE_LAYOUTS};
+use k42_shapes::Shape;
+use phase_core::{LocalEntry, ObjectPlan, PhaseEvent, PhaseState, Place, SwapAt, apply, has_room};
 use std::alloc::Global;
 use std::process::Abort;
 
@@ -156,15 +158,46 @@ fn answered(rt: &impl Abort, alloc: Global, state: &mut PhaseState, steps: &[(St
     count
 }
 
+// An object at each of the layouts, all of these shapes.
+fn plans(rt: &impl Abort, alloc: Global, shapes: &[Shape], layouts: &[u32]) -> Vec<ObjectPlan>
+    ensures { result.items ≡ map (plan_of shapes.now) layouts.now }
+{
+    let mut plans = Vec::new(alloc);
+    for layout in layouts {
+        let shapes = shapes.to_vec(alloc).expect(rt, "memory");
+        let layout = *layout;
+        plans
+            .push(ObjectPlan { shapes, layout })
+            .expect(rt, "memory");
+    }
+    plans
+}
+
 // A state in which nobody has entered.
-fn start(rt: &impl Abort, alloc: Global, procs: u32, layouts: &[u32], homes: &[u32]) -> PhaseState
-    requires { IsPlan procs layouts.now homes.now }
-    ensures new { result ≡ new_phases procs layouts.now homes.now }
+fn start_of(
+    rt: &impl Abort,
+    alloc: Global,
+    procs: u32,
+    shapes: &[Shape],
+    layouts: &[u32],
+    homes: &[u32],
+) -> PhaseState
+    requires { IsPlan procs (map (plan_of shapes.now) layouts.now) homes.now }
+    ensures new { result ≡ new_phases procs (map (plan_of shapes.now) layouts.now) homes.now }
     ensures sound { IsSound result }
 {
-    let layouts = layouts.to_vec(alloc).expect(rt, "memory");
+    let plans = plans(rt, alloc, shapes, layouts);
     let homes = homes.to_vec(alloc).expect(rt, "memory");
-    PhaseState::new(alloc, procs, layouts, homes).expect(rt, "memory")
+    PhaseState::new(alloc, procs, plans, homes).expect(rt, "memory")
+}
+
+// The same of objects that are shared, spread, or dead.
+fn start(rt: &impl Abort, alloc: Global, procs: u32, layouts: &[u32], homes: &[u32]) -> PhaseState
+    requires { IsPlan procs (map of_two layouts.now) homes.now }
+    ensures new { result ≡ new_phases procs (map of_two layouts.now) homes.now }
+    ensures sound { IsSound result }
+{
+    start_of(rt, alloc, procs, &[Shape::One, Shape::Each], layouts, homes)
 }
 
 fn place(state: &PhaseState, c: usize) -> Option<Place> {
@@ -443,7 +476,7 @@ fn a_swap_that_is_given_up_leaves_the_row_as_it_was(rt: HostRuntime) {
 
 // The one object of a new state goes to its last incarnation.
 fn age(state: &mut PhaseState)
-    requires { state.old ≡ new_phases 1 (0 ∷ []) (0 ∷ []) }
+    requires { state.old ≡ new_phases 1 (of_two 0 ∷ []) (0 ∷ []) }
     ensures { IsSound state.new }
 {
     let object = &mut state.objects[0];
@@ -462,4 +495,81 @@ fn a_swap_is_refused_at_the_last_incarnation(rt: HostRuntime) {
     age(&mut state);
     assert!(rt; does(&mut state, &PhaseEvent::Begin(0, 0)));
     assert!(rt; swap(&state, 0) == Some(SwapAt::Refused(0)));
+}
+
+// A swap of one processor moves its object.
+const MOVED: &[(Step, bool)] = &[
+    (Step::Begin(0, 0), true),
+    (Step::Interpose(0), true),
+    (Step::TakeRole(0, &[(0, 0)]), true),
+    (Step::Turn(GenEvent::LookAhead(0)), true),
+    (Step::Turn(GenEvent::Flip(0)), true),
+    (Step::Turn(GenEvent::Look(0)), true),
+    (Step::Turn(GenEvent::GiveRole(0)), true),
+    (Step::Block(0), true),
+    (Step::Move(0), true),
+];
+
+// It ends, and the next one begins.
+const BEGUN_AGAIN: &[(Step, bool)] = &[
+    (Step::Open(0), true),
+    (Step::Clear(0), true),
+    (Step::Begin(0, 0), true),
+];
+
+// A swap to the layout, and how the one behind it begins; none where it may not turn over.
+fn turned(rt: &impl Abort, alloc: Global, shapes: &[Shape], layout: u32) -> Option<SwapAt>
+    requires { length shapes.now ≤ LIVE_LAYOUTS }
+{
+    let mut state = start_of(rt, alloc, 1, shapes, &[0], &[0]);
+    assert!(rt; answered(rt, alloc, &mut state, MOVED) == 9);
+    if !does(&mut state, &PhaseEvent::TurnOver(0, layout)) {
+        return None;
+    }
+    assert!(rt; answered(rt, alloc, &mut state, BEGUN_AGAIN) == 3);
+    assert!(rt; numbers(&state, 0) == Some((0, 1, layout, 0)));
+    swap(&state, 0)
+}
+
+const THREE: [Shape; 3] = [Shape::One, Shape::Each, Shape::Groups(2)];
+
+const FOUR: [Shape; 4] = [Shape::One, Shape::Each, Shape::Groups(2), Shape::Groups(4)];
+
+#[test]
+fn a_swap_goes_to_each_layout_that_its_object_has_and_to_no_other(rt: HostRuntime) {
+    let alloc = rt.alloc();
+    let begun = Some(SwapAt::Begun(0));
+    let refused = Some(SwapAt::Refused(0));
+    assert!(rt; turned(&rt, alloc, &THREE, 2) == begun);
+    assert!(rt; turned(&rt, alloc, &THREE, 3) == refused);
+    assert!(rt; turned(&rt, alloc, &THREE, 4) == None);
+    assert!(rt; turned(&rt, alloc, &FOUR, 3) == begun);
+    assert!(rt; turned(&rt, alloc, &FOUR, 4) == refused);
+    assert!(rt; turned(&rt, alloc, &FOUR, 5) == None);
+    let most = [Shape::Groups(8); LIVE_LAYOUTS];
+    assert!(rt; turned(&rt, alloc, &most, 14) == begun);
+    assert!(rt; turned(&rt, alloc, &most, 15) == refused);
+    assert!(rt; turned(&rt, alloc, &most, 16) == None);
+}
+
+// The last of five processors misses an object in pairs, and installs what it found.
+const INSTALLED_IN_A_GROUP: &[(Step, bool)] = &[
+    (Step::Turn(GenEvent::Enter(0)), true),
+    (Step::LookUp(0, 0), true),
+    (Step::RootLoad(0, 0), true),
+    (Step::Install(0, 0), true),
+];
+
+#[test]
+fn an_entry_leads_to_the_cell_of_its_group(rt: HostRuntime) {
+    let alloc = rt.alloc();
+    let mut state = start_of(&rt, alloc, 5, &THREE, &[2], &[4]);
+    assert!(rt; answered(&rt, alloc, &mut state, INSTALLED_IN_A_GROUP) == 4);
+    let third = LocalEntry {
+        tag: 1,
+        layout: 2,
+        cell: 2,
+        incarnation: 0,
+    };
+    assert!(rt; entry(&state, 0, 4) == Some(third));
 }

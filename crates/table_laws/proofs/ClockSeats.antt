@@ -1,5 +1,5 @@
 -- Seats that tell of a clock: split off, and taken in.
-use Rattle.std.proofs.Common.{◌≡◌, ℕ, List, [], ◌∷◌, ◌++◌, set}
+use Rattle.std.proofs.Common.{ℕ, List, [], ◌∷◌, ◌++◌, set}
 use Rattle.turn_core.specs.declared.event.TurnEvent.TheVariants.{Skip}
 use Rattle.k42_stamp.specs.Laws.{AreLaws}
 use Rattle.k42_stamp.specs.Layouts.{Layouts}

@@ -58,14 +58,14 @@ module _ {S L P O R : Type 0} (F : Layouts S L P O R) (declared : List L) (table
       let many = r.sound.phases.in_scene.in_course.many_procs in let long = (object_known s r.sound.phases o there).many_entries in
       omega (arith, many, long, near) in
       let is = entry_known s r.sound.phases o there p procs in
-      record { tag = is.fits.tag; layout = is.fits.layout; cell = is.fits.cell; incarnation = is.last }
+      record { tag = is.fits.tag; layout = let few = is.fits.layout in omega (arith, few); cell = is.fits.cell; incarnation = is.last }
 
   object_fits_at : (o : ℕ) → o < length s.objects → ObjectFits o (object_at s o)
   object_fits_at o there =
       let fits = object_fits s r.sound.phases o there in let known = object_known s r.sound.phases o there in
       record {
         count = fits.count;
-        layout = fits.layout;
+        layout = let few = fits.layout in omega (arith, few);
         incarnation = fits.incarnation;
         freed =
             let freed = known.bits_follow.freed in let incarnation = known.bits_follow.incarnation in let most = known.freed_rows.freed in

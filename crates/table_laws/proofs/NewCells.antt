@@ -22,7 +22,7 @@ use Rattle.k42_joined.specs.Locks.{AreOfLives, IsOfLife}
 use Rattle.k42_joined.specs.Numbers.{cell_of, place_of}
 use Rattle.k42_joined.specs.Plain.{Joined}
 use Rattle.k42_joined.specs.Rows.{history_in}
-use Rattle.k42_joined.specs.State.{many_objects, many_hands, many_procs, incarnation, cell, cell_in, layouts_of}
+use Rattle.k42_joined.specs.State.{many_objects, many_hands, many_procs, object, incarnation, cell, cell_in, layouts_of}
 use Rattle.k42_board.specs.Cells.{Slot}
 use Rattle.k42_board.specs.Rule.{Ruled}
 use Rattle.k42_board.specs.declared.view.View.{View}
@@ -89,7 +89,7 @@ one_alone (x ∷ xs) a b e = by_rest xs e where
   by_rest (y ∷ ys) same = absurd (cc)
 
 module _ {S L P O R : Type 0} (F : Layouts S L P O R) (declared : List L) (callers : List ℕ) (table : State (Slot P O R) (View P O R))
-    (r : Ruled F declared (length callers) table) (new : AreNewPasses F.procs (length declared) callers table.views) where
+    (r : Ruled F declared (length callers) table) (new : AreNewPasses F.procs (map F.shapes_of declared) callers table.views) where
   abbrev s : Joined L O R
   s = r.rule.state
 
@@ -171,6 +171,7 @@ module _ {S L P O R : Type 0} (F : Layouts S L P O R) (declared : List L) (calle
     pub declares : slice_get declared o ≡ Some declaration
     pub hands : layouts_of s o ≡ []
     pub tagged : HasItsTag F declaration s o
+    pub shaped : (object s o).shapes ≡ F.shapes_of declaration
 
   pub first_row : (o : ℕ) → o < many_objects s → IsFirstRow o
   first_row o there =
@@ -186,6 +187,7 @@ module _ {S L P O R : Type 0} (F : Layouts S L P O R) (declared : List L) (calle
         declares = declaration.1;
         hands = one_alone (layouts_of s o) chain.0.row.layout declaration.0 alone;
         tagged = rows.tagged;
+        shaped = rows.shaped;
       }
 
   pub no_hands : (o : ℕ) → o < many_objects s → many_hands s o ≡ 0

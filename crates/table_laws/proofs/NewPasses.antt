@@ -43,7 +43,7 @@ inactive p generation x none = ap (λ active. eqb x.proc p && is_in active gener
   and_false false = refl
 
 module _ {S L P O R : Type 0} (F : Layouts S L P O R) (declared : List L) (callers : List ℕ) (table : State (Slot P O R) (View P O R))
-    (r : Ruled F declared (length callers) table) (new : AreNewPasses F.procs (length declared) callers table.views) where
+    (r : Ruled F declared (length callers) table) (new : AreNewPasses F.procs (map F.shapes_of declared) callers table.views) where
   abbrev pub s : Joined L O R
   s = r.rule.state
 
@@ -56,11 +56,11 @@ module _ {S L P O R : Type 0} (F : Layouts S L P O R) (declared : List L) (calle
   abbrev home_of : ℕ → ℕ
   home_of c = get_or callers c 0
 
-  seat_of : (c : ℕ) → c < length callers → HasSeat table.views (new_pass F.procs (length declared) c (home_of c))
+  seat_of : (c : ℕ) → c < length callers → HasSeat table.views (new_pass F.procs (map F.shapes_of declared) c (home_of c))
   seat_of c there = new c (home_of c) (slice_get-get_or callers c 0 there)
 
   known : (c : ℕ) (there : c < length callers)
-      → KnowsPass F.tag_of s r.rule.beside (seat_of c there).id (new_pass F.procs (length declared) c (home_of c))
+      → KnowsPass F.tag_of s r.rule.beside (seat_of c there).id (new_pass F.procs (map F.shapes_of declared) c (home_of c))
   known c there =
       let seat = seat_of c there in
       (r.rule.seats seat.id _ seat.there).1 seat.place _ seat.has
@@ -80,12 +80,12 @@ module _ {S L P O R : Type 0} (F : Layouts S L P O R) (declared : List L) (calle
       get_or-map in_words g.callers c _ _ within ∙ (known c there).generations.turn
       ∙ sym (get_or-map (gens.fresh_caller F.procs) callers c 0 _ there))
 
-  pub visitors_are : s.phases.callers ≡ replicate (length callers) (new_visitor (length declared))
+  pub visitors_are : s.phases.callers ≡ replicate (length callers) (new_visitor (length (map F.shapes_of declared)))
   visitors_are =
-      ext_get_or fresh_visitor s.phases.callers (replicate (length callers) (new_visitor (length declared)))
-      (r.many ∙ sym (length-replicate (length callers) (new_visitor (length declared))))
+      ext_get_or fresh_visitor s.phases.callers (replicate (length callers) (new_visitor (length (map F.shapes_of declared))))
+      (r.many ∙ sym (length-replicate (length callers) (new_visitor (length (map F.shapes_of declared)))))
       (λ c lt. let there : c < length callers = rw r.many at lt in
-      (known c there).phases.visitor ∙ sym (get_or-replicate (length callers) c (new_visitor (length declared)) fresh_visitor there))
+      (known c there).phases.visitor ∙ sym (get_or-replicate (length callers) c (new_visitor (length (map F.shapes_of declared))) fresh_visitor there))
 
   pub drawing_are : t.callers ≡ replicate (length callers) turns.fresh_caller
   drawing_are =
@@ -103,7 +103,7 @@ module _ {S L P O R : Type 0} (F : Layouts S L P O R) (declared : List L) (calle
         many : length s.kept ≡ length callers
         many = r.rule.sound.cells.locks.many.kept ∙ r.many
 
-  pub visitor_is : (c : ℕ) → c < length s.phases.callers → visitor_at s.phases c ≡ new_visitor (length declared)
+  pub visitor_is : (c : ℕ) → c < length s.phases.callers → visitor_at s.phases c ≡ new_visitor (length (map F.shapes_of declared))
   visitor_is c there = (known c (rw r.many at there)).phases.visitor
 
   -- of no caller an entry was drawn, and none holds a cell

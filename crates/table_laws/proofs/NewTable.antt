@@ -6,9 +6,11 @@ use Rattle.std.proofs.Math.ListN.{get_or-replicate}
 use Rattle.std.proofs.lemmas.Option.{slice_get-get_or, slice_get_within}
 use Rattle.atomic_table.specs.Table.{State}
 use Rattle.k42_limits.specs.declared.TheConstants.{PROCESSORS}
+use Rattle.k42_shapes.specs.declared.shape.Shape.{Shape}
 use Rattle.gen_core.specs.State.{fresh_proc}
 use Rattle.gen_core.specs.declared.state.GenProc.{GenProc}
 use Rattle.phase_core.specs.Effects.{direct_entry}
+use Rattle.phase_core.specs.Plain.{ObjectPlan}
 use Rattle.phase_core.specs.State.{fresh_object, new_object, empty_entry}
 use Rattle.phase_core.specs.declared.object.LocalEntry.{LocalEntry}
 use Rattle.turn_core.specs.State.{fresh_cell}
@@ -25,8 +27,8 @@ use Rattle.table_laws.specs.Opening.{AreNewPasses, AreBlank, IsAsMade, IsNew, pr
 use Rattle.table_laws.proofs.NewState.{new_state, as_new, made_is}
 
 -- an entry that leads to a row has a word above 0
-blank_entry : (e : LocalEntry) (layout p i : ℕ) → local_value e ≡ 0 → (e ≡ direct_entry layout p i) → e ≡ empty_entry i
-blank_entry e layout p i value is =
+blank_entry : (e : LocalEntry) (shapes : List Shape) (layout p i : ℕ) → local_value e ≡ 0 → (e ≡ direct_entry shapes layout p i) → e ≡ empty_entry i
+blank_entry e shapes layout p i value is =
     let tag : e.tag ≡ 1 = ap (λ (d : LocalEntry). d.tag) is in absurd (omega (arith, value, tag))
 
 -- computed: a processor that was entered and left 2 ^ 64 times shows nothing, one that was entered and left once does
@@ -37,7 +39,7 @@ one_shown : proc_in_words (record { generation = 0; entered = 1; exits_even = 1;
 one_shown is = let one = ap (λ (k : GenProc). k.entered) is in omega (arith, one)
 
 module _ {S L P O R : Type 0} (F : Layouts S L P O R) (declared : List L) (callers : List ℕ) (table : State (Slot P O R) (View P O R))
-    (r : Ruled F declared (length callers) table) (new : AreNewPasses F.procs (length declared) callers table.views)
+    (r : Ruled F declared (length callers) table) (new : AreNewPasses F.procs (map F.shapes_of declared) callers table.views)
     (blank : AreBlank F.procs (length declared) table.words) (all : F.procs ≡ PROCESSORS) where
   abbrev s : Joined L O R
   s = r.rule.state
@@ -49,8 +51,8 @@ module _ {S L P O R : Type 0} (F : Layouts S L P O R) (declared : List L) (calle
   like = new_state F declared callers table r new
 
   module _ (o : ℕ) (there : o < many_objects s) where
-    made_of : (layout : ℕ) → IsAsMade (new_object F.procs layout) (object s o) → object s o ≡ new_object F.procs layout
-    made_of layout as_made = as_made.is ∙ (λ j. record (new_object F.procs layout) { entries = entries_are j }) where
+    made_of : (plan : ObjectPlan) → IsAsMade (new_object F.procs plan) (object s o) → object s o ≡ new_object F.procs plan
+    made_of plan as_made = as_made.is ∙ (λ j. record (new_object F.procs plan) { entries = entries_are j }) where
       none_leads : (p : ℕ) → p < length (object s o).entries → get_or (object s o).entries p (empty_entry 0) ≡ empty_entry 0
       none_leads p lt =
           let e : LocalEntry = get_or (object s o).entries p (empty_entry 0) in
@@ -58,7 +60,7 @@ module _ {S L P O R : Type 0} (F : Layouts S L P O R) (declared : List L) (calle
           let near : p < F.procs = rw (as_made.many ∙ length-replicate F.procs (empty_entry 0)) at lt in
           let shown = (r.rule.shows.objects o (object s o) (slice_get-get_or s.phases.objects o fresh_object there)).entries p e at in
           let value : local_value e ≡ 0 = sym shown ∙ blank.entries o p (rw (← r.rule.sound.cells.rows.objects) at there) near in
-          ⊎_elim (λ empty. empty) (λ leads. blank_entry e layout p 0 value leads) (as_made.entries p e at)
+          ⊎_elim (λ empty. empty) (λ leads. blank_entry e plan.shapes plan.layout p 0 value leads) (as_made.entries p e at)
 
       entries_are : (object s o).entries ≡ replicate F.procs (empty_entry 0)
       entries_are =

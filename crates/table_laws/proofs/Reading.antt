@@ -53,10 +53,11 @@ object_is_read words o k shown fits = record {
   freed = shown.freed;
   entries = λ p e at.
       let local = fits.entries p e at in
-      entry_read e _ (record { tag = local.tag; layout = local.layout; cell = local.cell }) (shown.entries p e at);
+      let few = local.layout in
+      entry_read e _ (record { tag = local.tag; layout = omega (arith, few); cell = local.cell }) (shown.entries p e at);
 } where
   small : Fits k
-  small = record { count = fits.count; layout = fits.layout; incarnation = fits.incarnation }
+  small = record { count = fits.count; layout = let few = fits.layout in omega (arith, few); incarnation = fits.incarnation }
 
   read : IsRead k (slice_index words (object_word o))
   read = object_read k (slice_index words (object_word o)) small shown.word

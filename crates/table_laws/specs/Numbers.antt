@@ -1,6 +1,6 @@
 -- The counts of a state: how far each goes, in a field that has room for more.
 use Rattle.std.specs.Prelude.{◌≡◌, ℕ, ◌*◌, ◌<◌, ◌≤◌, List, Option, Some}
-use Rattle.k42_limits.specs.declared.TheConstants.{CALLERS, LAST_INCARNATION, LAST_STAMP, OBJECTS, PASS_ENTRIES, PASS_GRACES, PROCESSORS}
+use Rattle.k42_limits.specs.declared.TheConstants.{CALLERS, LAST_INCARNATION, LAST_STAMP, LIVE_LAYOUTS, OBJECTS, PASS_ENTRIES, PASS_GRACES, PROCESSORS}
 use Rattle.k42_kinds.specs.declared.entry.Entry.{Entry}
 use Rattle.k42_places.specs.Places.{EachPlace}
 use Rattle.gen_core.specs.declared.state.GenProc.{GenProc}
@@ -20,14 +20,14 @@ pub record ProcessorFits (p : ℕ) (k : GenProc) : Type 0 where
 -- what a processor's table has of an object: fields of 4, 4, 24 and 32 bits
 pub record LocalFits (p : ℕ) (e : LocalEntry) : Type 0 where
   pub tag : e.tag ≤ 2
-  pub layout : e.layout ≤ 2
+  pub layout : e.layout ≤ LIVE_LAYOUTS
   pub cell : e.cell < PROCESSORS
   pub incarnation : e.incarnation ≤ LAST_INCARNATION
 
 -- an object's word: fields of 24, 4 and 32 bits beside its bits; and how many of its rows are freed
 pub record ObjectFits (o : ℕ) (k : Object) : Type 0 where
   pub count : k.count ≤ CALLERS
-  pub layout : k.layout ≤ 2
+  pub layout : k.layout ≤ LIVE_LAYOUTS
   pub incarnation : k.incarnation ≤ LAST_INCARNATION
   pub freed : k.freed ≤ k.incarnation
   pub entries : EachPlace LocalFits k.entries

@@ -3,6 +3,7 @@ use Rattle.std.specs.Prelude.{◌≡◌, ◌⊎◌, ℕ, ◌%◌, ◌<◌, ◌^�
 use mathlib.Core.Option.{some}
 use lib.ListN.{get_elem?}
 use Rattle.k42_places.specs.Places.{EachPlace}
+use Rattle.k42_shapes.specs.declared.shape.Shape.{Shape}
 use Rattle.gen_core.specs.Plain.{Generations}
 use Rattle.gen_core.specs.declared.state.GenProc.{GenProc}
 use Rattle.phase_core.specs.Effects.{direct_entry}
@@ -29,10 +30,10 @@ pub record HasSeat {P O R : Type 0} (views : List (View P O R)) (v : PassView P 
   pub place : ℕ
   pub has : slice_get passes place ≡ Some v
 
--- the pass of each caller, of those on these processors, is new
-abbrev pub AreNewPasses : {P O R : Type 0} → ℕ → ℕ → List ℕ → List (View P O R) → Type 0
-AreNewPasses procs objects callers views =
-    EachPlace (λ c home. HasSeat views (new_pass procs objects c home)) callers
+-- the pass of each caller, of those on these processors, is new, to objects with live layouts of these shapes
+abbrev pub AreNewPasses : {P O R : Type 0} → ℕ → List (List Shape) → List ℕ → List (View P O R) → Type 0
+AreNewPasses procs shapes callers views =
+    EachPlace (λ c home. HasSeat views (new_pass procs shapes c home)) callers
 
 -- the words of a processor are 0
 pub record IsBlank (words : List ℕ) (p : ℕ) : Type 0 where
@@ -71,7 +72,8 @@ pub record IsAsMade (made k : Object) : Type 0 where
   pub many : length k.entries ≡ length made.entries
   pub entries :
       EachPlace (λ p e.
-      (e ≡ empty_entry made.incarnation) ⊎ (e ≡ direct_entry made.layout p made.incarnation))
+      (e ≡ empty_entry made.incarnation)
+      ⊎ (e ≡ direct_entry made.shapes made.layout p made.incarnation))
       k.entries
 
 -- nobody holds the cell, and no entry was drawn at it

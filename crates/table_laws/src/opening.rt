@@ -1,5 +1,5 @@
 //! What a new system shows.
-ghost use Rattle.std.specs.Prelude.{◌≡◌, ℕ, List, length};
+ghost use Rattle.std.specs.Prelude.{◌≡◌, ℕ, List, length, map};
 ghost use Rattle.atomic_table.specs.Table.{State, opening};
 ghost use Rattle.k42_board.specs.Cells.{Slot};
 ghost use Rattle.k42_board.specs.Rule.{Ruled};
@@ -18,8 +18,8 @@ pub fn an_opened_table_has_new_passes<L: Layout>(sys: &Sys<L>)
     ensures { (words : List ℕ) (slots : List (Slot L.Part L.Op L.Reply))
         (table : State (Slot L.Part L.Op L.Reply) (View L.Part L.Op L.Reply))
         → table
-        ≡ opening words slots (first_view sys.now.procs sys.now.layouts sys.now.callers)
-        → AreNewPasses sys.now.procs (length sys.now.layouts) sys.now.callers table.views }
+        ≡ opening words slots (first_view L.shapes sys.now.procs sys.now.layouts sys.now.callers)
+        → AreNewPasses sys.now.procs (map L.shapes sys.now.layouts) sys.now.callers table.views }
 {
     let _ = sys.procs();
 }
@@ -30,7 +30,7 @@ pub fn a_new_table_shows_the_new_state<L: Layout>(sys: &Sys<L>)
         (ruled : Ruled
         (layouts_in L.Layout sys.now)
         sys.now.layouts (length sys.now.callers) table)
-        → AreNewPasses sys.now.procs (length sys.now.layouts) sys.now.callers table.views
+        → AreNewPasses sys.now.procs (map L.shapes sys.now.layouts) sys.now.callers table.views
         → IsNew (layouts_in L.Layout sys.now) sys.now.layouts sys.now.callers ruled.rule.state }
 {
     let _ = sys.procs();
@@ -43,7 +43,7 @@ pub fn a_blank_table_shows_just_the_new_state<L: Layout>(sys: &Sys<L>)
         (ruled : Ruled
         (layouts_in L.Layout sys.now)
         sys.now.layouts (length sys.now.callers) table)
-        → AreNewPasses sys.now.procs (length sys.now.layouts) sys.now.callers table.views
+        → AreNewPasses sys.now.procs (map L.shapes sys.now.layouts) sys.now.callers table.views
         → AreBlank sys.now.procs (length sys.now.layouts) table.words
         → sys.now.procs ≡ PROCESSORS
         → state_in_words ruled.rule.state

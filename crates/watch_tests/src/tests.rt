@@ -1,7 +1,8 @@
 //! Watched objects of each kind, in each layout, and on their way from one to the other.
 ghost use Rattle.std.specs.Prelude.{◌≡◌, ◌<◌, ◌≤◌};
 ghost use Rattle.k42_limits.specs.declared.TheConstants.{PROCESSORS};
-ghost use Rattle.k42_watch.specs.WatchedRows.{IsWatchedRow};
+ghost use Rattle.k42_shapes.specs.Shapes.{IsKnownTag, IsLiveTag, shared_and_spread};
+ghost use Rattle.k42_watch.specs.WatchedRows.{IsWatchedRow, within};
 ghost use Rattle.co_any.specs.Layouts.{whole_of};
 
 use co_any::{AnyLayout, AnyPart};
@@ -35,7 +36,7 @@ fn moved<L: Layout>(
     to: &L,
     parts: &mut Vec<L::Part>,
 ) -> Vec<L::Part>
-    requires known { (L.tag_of from.now ≤ 1) × (L.tag_of to.now ≤ 2) }
+    requires known { IsLiveTag (L.shapes from.now) (L.tag_of from.now) × IsKnownTag (L.shapes to.now) (L.tag_of to.now) }
     requires same { L.object from.now ≡ L.object to.now }
     requires row { L.whole from.now 8 parts.old.items }
     ensures { L.whole to.now 8 result.items }
@@ -47,8 +48,8 @@ fn moved<L: Layout>(
 /// Makes the operations of the object's kind, for the last and the first processor in turn.
 fn call(rt: &impl Abort, alloc: Global, layout: &Watched, row: &mut Row, ops: &[Op])
     requires known { layout.now.inner.tag ≤ 2 }
-    requires row { IsWatchedRow layout.now.inner.tag (whole_of layout.now.inner.kind layout.now.inner.tag 8) row.old.items }
-    ensures { IsWatchedRow layout.now.inner.tag (whole_of layout.now.inner.kind layout.now.inner.tag 8) row.new.items }
+    requires row { IsWatchedRow (within shared_and_spread layout.now.inner.tag) (whole_of layout.now.inner.kind layout.now.inner.tag 8) row.old.items }
+    ensures { IsWatchedRow (within shared_and_spread layout.now.inner.tag) (whole_of layout.now.inner.kind layout.now.inner.tag 8) row.new.items }
 {
     let mut proc = 7;
     for op in ops {
@@ -61,8 +62,8 @@ fn call(rt: &impl Abort, alloc: Global, layout: &Watched, row: &mut Row, ops: &[
 /// The object is to tell so of its calls.
 fn expect_figure(rt: &impl Abort, alloc: Global, layout: &Watched, row: &mut Row, due: Reply)
     requires known { layout.now.inner.tag ≤ 2 }
-    requires row { IsWatchedRow layout.now.inner.tag (whole_of layout.now.inner.kind layout.now.inner.tag 8) row.old.items }
-    ensures { IsWatchedRow layout.now.inner.tag (whole_of layout.now.inner.kind layout.now.inner.tag 8) row.new.items }
+    requires row { IsWatchedRow (within shared_and_spread layout.now.inner.tag) (whole_of layout.now.inner.kind layout.now.inner.tag 8) row.old.items }
+    ensures { IsWatchedRow (within shared_and_spread layout.now.inner.tag) (whole_of layout.now.inner.kind layout.now.inner.tag 8) row.new.items }
 {
     let told = step_row(layout, alloc, row, &Op::Seen, 3, 8).expect(rt, "memory");
     assert!(rt; told == due, "{told:?} in place of {due:?}");
@@ -79,8 +80,8 @@ fn carried(
 ) -> Row
     requires known { (from.now.inner.tag ≤ 1) × (to.now.inner.tag ≤ 2) }
     requires same { from.now.inner.kind ≡ to.now.inner.kind }
-    requires row { IsWatchedRow from.now.inner.tag (whole_of from.now.inner.kind from.now.inner.tag 8) row.old.items }
-    ensures { IsWatchedRow to.now.inner.tag (whole_of to.now.inner.kind to.now.inner.tag 8) result.items }
+    requires row { IsWatchedRow (within shared_and_spread from.now.inner.tag) (whole_of from.now.inner.kind from.now.inner.tag 8) row.old.items }
+    ensures { IsWatchedRow (within shared_and_spread to.now.inner.tag) (whole_of to.now.inner.kind to.now.inner.tag 8) result.items }
 {
     let mut row = moved(rt, alloc, from, to, row);
     expect_figure(rt, alloc, to, &mut row, due);

@@ -1,6 +1,7 @@
 //! Both layouts at several processors, and a directory that moves between them.
 ghost use Rattle.std.specs.Prelude.{◌≡◌, ◌<◌, ◌≤◌, IsTrue};
 ghost use Rattle.k42_limits.specs.declared.TheConstants.{PROCESSORS};
+ghost use Rattle.k42_shapes.specs.Shapes.{IsKnownTag};
 ghost use Rattle.k42_kinds.specs.declared.operation.Op.{Op};
 ghost use Rattle.k42_kinds.specs.Objects.{directory_object};
 
@@ -19,7 +20,7 @@ fn follow<L: Layout + Kind<Op = Op, Reply = Reply>>(
     procs: u32,
     x: Name,
 ) -> Result<(), Memory>
-    requires known { (L.tag_of layout.now ≤ 2) × (0 < procs) × (procs ≤ PROCESSORS) }
+    requires known { IsKnownTag (L.shapes layout.now) (L.tag_of layout.now) × (0 < procs) × (procs ≤ PROCESSORS) }
     requires takes { (op : Op) → IsTrue (directory_object.takes op) → IsTrue ((L.object layout.now).takes op) }
 {
     let last = procs - 1;

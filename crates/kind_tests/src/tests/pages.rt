@@ -1,6 +1,7 @@
 //! Both layouts at several processors, and pages that come back from the cells.
 ghost use Rattle.std.specs.Prelude.{◌≡◌, ◌<◌, ◌≤◌, IsTrue, IfOk};
 ghost use Rattle.k42_limits.specs.declared.TheConstants.{PROCESSORS};
+ghost use Rattle.k42_shapes.specs.Shapes.{IsKnownTag};
 ghost use Rattle.k42_kinds.specs.declared.operation.Op.{Op};
 ghost use Rattle.k42_kinds.specs.Objects.{pages_object};
 
@@ -20,7 +21,7 @@ fn follow<L: Layout + Kind<Op = Op, Reply = Reply>>(
     proc: u32,
     hello: &Text,
 ) -> Result<(), Memory>
-    requires known { (L.tag_of layout.now ≤ 2) × (proc < procs) × (procs ≤ PROCESSORS) }
+    requires known { IsKnownTag (L.shapes layout.now) (L.tag_of layout.now) × (proc < procs) × (procs ≤ PROCESSORS) }
     requires takes { (op : Op) → IsTrue (pages_object.takes op) → IsTrue ((L.object layout.now).takes op) }
 {
     let mut row = empty_row(layout, alloc, procs)?;
@@ -68,7 +69,7 @@ fn brought_back<L: Layout>(
     state: &L::State,
     procs: u32,
 ) -> Result<L::State, Memory>
-    requires known { (L.tag_of layout.now ≤ 2) × (0 < procs) × (procs ≤ PROCESSORS) }
+    requires known { IsKnownTag (L.shapes layout.now) (L.tag_of layout.now) × (0 < procs) × (procs ≤ PROCESSORS) }
     requires served { L.serves layout.now state.now }
     ensures { IfOk result (λ same. same ≡ state.now) }
 {

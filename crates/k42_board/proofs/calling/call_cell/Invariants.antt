@@ -8,7 +8,7 @@ use Rattle.k42_board.proofs.calling.call_cell.Given as goal
 abbrev pub ghosts-lift_cell : goal.ghosts-lift_cell
 ghosts-lift_cell g a = record {
   known = AreRowsNoted
-      (layouts_on g.L.Kind.object g.L.Layout.tag_of g.L.Layout.ways g.L.Layout.whole g.L.Layout.serves g.L.Layout.admitted g.L.Layout.act_of a.board.now.shared.key.procs a.board.now.shared.key.callers.items)
+      (layouts_on g.L.Kind.object g.L.Layout.shapes g.L.Layout.tag_of g.L.Layout.ways g.L.Layout.whole g.L.Layout.serves g.L.Layout.admitted g.L.Layout.act_of a.board.now.shared.key.procs a.board.now.shared.key.callers.items)
       a.board.now.shared.key.layouts.items;
 }
 

@@ -12,9 +12,10 @@ pub loop-object-preserved : goal.loop-object-preserved
 loop-object-preserved g c =
     let o : ℕ = c.loop-object.object in let lt = c.loop-object-test.true in let few = c.requires.few in
     let here = slice_get_here c.args.layouts.now o c.index-layouts-object.result (omega (arith, lt)) c.index-layouts-object.is in
-    let live = c.requires.live o c.index-layouts-object.result here in
+    let met = g.met.L.Layout g.world.𝓛 g.world.𝓜 g.world.𝓡 ((λ s x. x), (λ x. x), (λ x. x), λ x. x) in
+    let live = c.requires.live o c.index-layouts-object.result here in let most = met.few c.index-layouts-object.result in
     words_more g.L.Layout.tag_of c.args.layouts.now o c.index-layouts-object.result c.loop-object.words.items c.object_word.result _ (omega (arith, lt, few)) here c.object_word.ensures
-    (let is = c.from.ensures in let tag = c.tag.ensures in omega (arith, is, tag, live)) c.loop-object.invariant
+    (let is = c.from.ensures in let tag = c.tag.ensures in omega (arith, is, tag, live, most)) c.loop-object.invariant
 
 pub returns : goal.returns
 returns g c =

@@ -13,7 +13,7 @@ use Rattle.k42_board.proofs.queueing.name_newest.Goals as goal
 pub load-requires : goal.load-requires
 load-requires g c =
     let key = c.args.board.now.shared.key in let slots : ℕ = c.args.board.now.shared.table_id.slots in
-    let F = layouts_on g.L.Kind.object g.L.Layout.tag_of g.L.Layout.ways g.L.Layout.whole g.L.Layout.serves g.L.Layout.admitted g.L.Layout.act_of key.procs key.callers.items in (
+    let F = layouts_on g.L.Kind.object g.L.Layout.shapes g.L.Layout.tag_of g.L.Layout.ways g.L.Layout.whole g.L.Layout.serves g.L.Layout.admitted g.L.Layout.act_of key.procs key.callers.items in (
       c.requires.ours.0,
       (let wide = c.requires.ours.1 in omega (arith, wide)),
       seat_stays_allowed (stays_so F key.layouts.items _ _) AreGranted (finds_granted F key.layouts.items _ _) c.args.seat.now.me c.requires.pass slots (step slots 0 0 0 none),
@@ -22,7 +22,7 @@ load-requires g c =
 pub split_seat-requires : goal.split_seat-requires
 split_seat-requires g c =
     let key = c.args.board.now.shared.key in let before = c.args.seat.now.me in
-    let F = layouts_on g.L.Kind.object g.L.Layout.tag_of g.L.Layout.ways g.L.Layout.whole g.L.Layout.serves g.L.Layout.admitted g.L.Layout.act_of key.procs key.callers.items in
+    let F = layouts_on g.L.Kind.object g.L.Layout.shapes g.L.Layout.tag_of g.L.Layout.ways g.L.Layout.whole g.L.Layout.serves g.L.Layout.admitted g.L.Layout.act_of key.procs key.callers.items in
     let now : IsSeatOf c.load.new.seat.me (pass_in before.0) =
     c.load.ensures.2.0 ∙ ap (λ (m : Seated _ _ _). (on_pass (λ v. v) m.0, m.1)) c.requires.pass in (
       c.load.ensures.0 ∙ c.requires.ours.0,

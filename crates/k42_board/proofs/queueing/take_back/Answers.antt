@@ -9,7 +9,7 @@ use Rattle.k42_board.proofs.queueing.take_back.Goals as goal
 pub join_seat-requires : goal.join_seat-requires
 join_seat-requires g c =
     let key = c.args.board.now.shared.key in
-    let F = layouts_on g.L.Kind.object g.L.Layout.tag_of g.L.Layout.ways g.L.Layout.whole g.L.Layout.serves g.L.Layout.admitted g.L.Layout.act_of key.procs key.callers.items in (
+    let F = layouts_on g.L.Kind.object g.L.Layout.shapes g.L.Layout.tag_of g.L.Layout.ways g.L.Layout.whole g.L.Layout.serves g.L.Layout.admitted g.L.Layout.act_of key.procs key.callers.items in (
       c.requires.ours.0,
       c.requires.row.0,
       ap (λ (m : Seated _ _ _). m.1) c.requires.row.1,
@@ -21,7 +21,7 @@ join_seat-requires g c =
 pub join_seat-requires-else-granted : goal.join_seat-requires-else-granted
 join_seat-requires-else-granted g c =
     let key = c.args.board.now.shared.key in
-    let F = layouts_on g.L.Kind.object g.L.Layout.tag_of g.L.Layout.ways g.L.Layout.whole g.L.Layout.serves g.L.Layout.admitted g.L.Layout.act_of key.procs key.callers.items in (
+    let F = layouts_on g.L.Kind.object g.L.Layout.shapes g.L.Layout.tag_of g.L.Layout.ways g.L.Layout.whole g.L.Layout.serves g.L.Layout.admitted g.L.Layout.act_of key.procs key.callers.items in (
       c.requires.ours.0,
       c.requires.row.0,
       ap (λ (m : Seated _ _ _). m.1) c.requires.row.1,

@@ -14,7 +14,7 @@ use Rattle.k42_board.proofs.queueing.take_in.Goals as goal
 pub join_seat-requires : goal.join_seat-requires
 join_seat-requires g c =
     let key = c.args.board.now.shared.key in
-    let F = layouts_on g.L.Kind.object g.L.Layout.tag_of g.L.Layout.ways g.L.Layout.whole g.L.Layout.serves g.L.Layout.admitted g.L.Layout.act_of key.procs key.callers.items in (
+    let F = layouts_on g.L.Kind.object g.L.Layout.shapes g.L.Layout.tag_of g.L.Layout.ways g.L.Layout.whole g.L.Layout.serves g.L.Layout.admitted g.L.Layout.act_of key.procs key.callers.items in (
       c.requires.ours.0,
       c.requires.row.0,
       ap (λ (m : Seated _ _ _). m.1) c.requires.row.1,
@@ -26,7 +26,7 @@ join_seat-requires g c =
 pub load-requires : goal.load-requires
 load-requires g c =
     let key = c.args.board.now.shared.key in let slots : ℕ = c.args.board.now.shared.table_id.slots in
-    let F = layouts_on g.L.Kind.object g.L.Layout.tag_of g.L.Layout.ways g.L.Layout.whole g.L.Layout.serves g.L.Layout.admitted g.L.Layout.act_of key.procs key.callers.items in
+    let F = layouts_on g.L.Kind.object g.L.Layout.shapes g.L.Layout.tag_of g.L.Layout.ways g.L.Layout.whole g.L.Layout.serves g.L.Layout.admitted g.L.Layout.act_of key.procs key.callers.items in
     let now : IsSeatOf c.join_seat.new.seat.me (with_newest (row_named c.args.named.me.0) (pass_in c.args.seat.now.me.0)) =
     c.join_seat.ensures.2 ∙ (λ i. (takes_in (c.requires.pass i).0 (c.requires.row.1 i).0, (c.requires.pass i).1)) in (
       c.join_seat.ensures.0 ∙ c.requires.ours.0,

@@ -9,7 +9,7 @@ use Rattle.k42_board.proofs.skipping.skip_to.Goals as goal
 pub join_seat-requires : goal.join_seat-requires
 join_seat-requires g c =
     let key = c.args.board.now.shared.key in let me = c.args.seat.now.me in let told = c.args.other.me in
-    let F = layouts_on g.L.Kind.object g.L.Layout.tag_of g.L.Layout.ways g.L.Layout.whole g.L.Layout.serves g.L.Layout.admitted g.L.Layout.act_of key.procs key.callers.items in (
+    let F = layouts_on g.L.Kind.object g.L.Layout.shapes g.L.Layout.tag_of g.L.Layout.ways g.L.Layout.whole g.L.Layout.serves g.L.Layout.admitted g.L.Layout.act_of key.procs key.callers.items in (
       c.requires.here.ours,
       c.requires.theirs,
       ap (λ (m : Seated _ _ _). m.1) c.requires.told,

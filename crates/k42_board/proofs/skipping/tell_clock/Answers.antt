@@ -8,7 +8,7 @@ use Rattle.k42_board.proofs.skipping.tell_clock.Goals as goal
 pub split_seat-requires : goal.split_seat-requires
 split_seat-requires g c =
     let key = c.args.board.now.shared.key in let me = c.args.seat.now.me in
-    let F = layouts_on g.L.Kind.object g.L.Layout.tag_of g.L.Layout.ways g.L.Layout.whole g.L.Layout.serves g.L.Layout.admitted g.L.Layout.act_of key.procs key.callers.items in (
+    let F = layouts_on g.L.Kind.object g.L.Layout.shapes g.L.Layout.tag_of g.L.Layout.ways g.L.Layout.whole g.L.Layout.serves g.L.Layout.admitted g.L.Layout.act_of key.procs key.callers.items in (
       c.requires.ours.0,
       (let wide = c.requires.ours.1 in omega (arith, wide)),
       clock_splits F key.layouts.items (length key.callers.items) c.args.seat.now.id (pass_in me.0) me.0 (ap (λ (m : Seated _ _ _). m.0) c.requires.seated),

@@ -1,10 +1,13 @@
-use Rattle.std.proofs.Common.{ℕ, arith}
+use Rattle.std.proofs.Common.{ℕ, subst, arith}
 use mathlib.Core.Option.{none}
 use Rattle.atomic_table.specs.Table.{step}
+use Rattle.k42_board.proofs.Looking.{word_object_is}
 use Rattle.k42_board.proofs.Beginning.{begin_moves, begin_allowed, begin_told}
 use Rattle.k42_board.proofs.Moves.{seat_is}
 use Rattle.k42_board.proofs.Stepped.{has_taken}
 use Rattle.k42_board.specs.Protocol.{begin}
+use Rattle.k42_board.specs.Tabling.{ObjectFound}
+use Rattle.k42_board.specs.Views.{pass_in}
 use Rattle.k42_board.proofs.table_words.begin_word.Goals as goal
 
 pub fetch_or-requires : goal.fetch_or-requires
@@ -20,5 +23,6 @@ returns g c =
     let slots : ℕ = c.args.board.now.shared.table_id.slots in let before = c.args.seat.now.me in let o : ℕ = c.args.object in let t = c.requires.may in let word : ℕ = c.object_word.result in
     let told = begin_told _ t.here.laws _ c.args.seat.now.id o before t.here.alone t.may word c.object_word.ensures
     (step slots word 16777216 0 none) c.fetch_or.result c.fetch_or.new.seat.me c.fetch_or.ensures.2 in
-    has_taken _ _ (begin o) _ c.fetch_or.new.seat t.here.alone c.fetch_or.ensures.0 c.fetch_or.ensures.1 (step slots word 16777216 0 none) c.fetch_or.result told c.fetch_or.ensures.2.1
+    has_taken _ _ (begin o) _ c.fetch_or.new.seat t.here.alone c.fetch_or.ensures.0 c.fetch_or.ensures.1 (step slots word 16777216 0 none) c.fetch_or.result told
+    (subst (λ q. ObjectFound q (pass_in before.0) c.fetch_or.result) (word_object_is o word c.object_word.ensures) c.fetch_or.ensures.2.1)
     (seat_is (begin_moves _ t.here.laws _ _ o _ t.may) before c.fetch_or.new.seat.me t.here.alone (step slots word 16777216 0 none) c.fetch_or.result told)

@@ -6,7 +6,7 @@ use Rattle.k42_joined.proofs.laws.parts_follow_draws.Goals as goal
 pub returns : goal.returns
 returns g c = λ proc_of on_one declared s o d declaration x y cells entry sound declares was possible same is.
     let met = g.met.L.Layout g.world.𝓛 g.world.𝓜 g.world.𝓡 ((λ s x. x), (λ x. x), (λ x. x), λ x. x) in
-    let F = layouts_with g.L.Kind.object g.L.Layout.tag_of g.L.Layout.ways g.L.Layout.whole g.L.Layout.serves g.L.Layout.admitted g.L.Layout.act_of c.args.procs proc_of in
+    let F = layouts_with g.L.Kind.object g.L.Layout.shapes g.L.Layout.tag_of g.L.Layout.ways g.L.Layout.whole g.L.Layout.serves g.L.Layout.admitted g.L.Layout.act_of c.args.procs proc_of in
     let laws : AreLaws F = record {
       some = c.requires;
       on_one = on_one;
@@ -19,5 +19,7 @@ returns g c = λ proc_of on_one declared s o d declaration x y cells entry sound
       admits = λ layout before state known live same served. met.admits layout before state known live same served;
       swaps = λ layout state known. met.swaps layout state known;
       asks = λ layout. met.asks layout;
+      alike = λ layout other same. met.alike layout other same;
+      few = λ layout. met.few layout;
     } in
     follows_draw F laws declared s sound o declaration declares x y was d cells entry possible same is

@@ -2,21 +2,22 @@ use Rattle.std.proofs.Common.{◌≡◌, ℕ, ◌<◌, ◌≤◌, IsTrue, List, 
 use Rattle.std.specs.Prelude.{slice_index_or}
 use Rattle.k42_kinds.specs.declared.entry.Reach.{Reach}
 use Rattle.k42_kinds.specs.declared.entry.Reach.TheVariants.{One}
-use Rattle.k42_kinds.specs.Rows.{cells_of, part_at}
+use Rattle.k42_kinds.specs.Rows.{part_at}
+use Rattle.k42_shapes.specs.Shapes.{IsKnownTag, cells_of, shape_at}
 use Rattle.k42_kinds.specs.LayoutLaws.{StepsRow}
 use Rattle.k42_kinds.proofs.RowSteps.{cell_there, part_there, whole_after_one, steps_after_one, steps_after_all}
 use Rattle.k42_kinds.proofs.row.step_row.Given as given
 use Rattle.k42_kinds.proofs.row.step_row.Goals as goal
 
 module _ (g : given.Over) (layout : g.row.L.Denot) (procs proc : ℕ) (parts : List g.row.L-Part.Denot) (op : g.row.L-Op.Denot) (cell : ℕ)
-    (reach : (g.L.Layout.ways layout).reach procs op proc ≡ One cell) (known : g.L.Layout.tag_of layout ≤ 2) (in_range : proc < procs)
+    (reach : (g.L.Layout.ways layout).reach procs op proc ≡ One cell) (known : IsKnownTag (g.L.Layout.shapes layout) (g.L.Layout.tag_of layout)) (in_range : proc < procs)
     (takes : IsTrue ((g.L.Kind.object layout).takes op)) (whole : g.L.Layout.whole layout procs parts) where
   -- the part that is stepped is the one at the cell
   there : (part : g.row.L-Part.Denot) → part ≡ slice_index_or parts cell part → part_at parts cell ≡ Some part
   there part value =
       let laws = g.met.L.Layout g.world.𝓛 g.world.𝓜 g.world.𝓡 ((λ s x. x), (λ x. x), (λ x. x), λ x. x) in
       part_there parts cell part
-      (cell_there (cells_of (g.L.Layout.tag_of layout) procs) cell ((g.L.Layout.ways layout).reach procs op proc) parts (laws.reaches layout procs proc op known in_range takes) reach (laws.stands layout procs parts known (omega (arith, in_range)) whole).sized)
+      (cell_there (cells_of (shape_at (g.L.Layout.shapes layout) (g.L.Layout.tag_of layout)) procs) cell ((g.L.Layout.ways layout).reach procs op proc) parts (laws.reaches layout procs proc op known in_range takes) reach (laws.stands layout procs parts known (omega (arith, in_range)) whole).sized)
       value
 
   -- the step at the cell is the object's

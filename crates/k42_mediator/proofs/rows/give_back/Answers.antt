@@ -9,14 +9,14 @@ use Rattle.k42_mediator.proofs.rows.give_back.Goals as goal
 
 pub give_next-requires-clause-ready : goal.give_next-requires-clause-ready
 give_next-requires-clause-ready g c κs within =
-    let F = layouts_on g.L.Kind.object g.L.Layout.tag_of g.L.Layout.ways g.L.Layout.whole g.L.Layout.serves g.L.Layout.admitted g.L.Layout.act_of c.args.sys.now.procs c.args.sys.now.callers in
+    let F = layouts_on g.L.Kind.object g.L.Layout.shapes g.L.Layout.tag_of g.L.Layout.ways g.L.Layout.whole g.L.Layout.serves g.L.Layout.admitted g.L.Layout.act_of c.args.sys.now.procs c.args.sys.now.callers in
     subst (λ (id : ℕ). MayPutBack F c.args.sys.now.layouts id c.loop-cell.pass.view c.in-Some.cell) (sym c.loop-cell.invariant.same.seat)
     (last_ready F c.args.sys.now.layouts c.args.pass.now c.loop-cell.pass c.args.cells.items c.loop-cell.cells.items c.pop.new.self.items c.in-Some.cell
     c.loop-cell.invariant c.in-Some.ensures.items)
 
 pub loop-cell-preserved : goal.loop-cell-preserved
 loop-cell-preserved g c =
-    let F = layouts_on g.L.Kind.object g.L.Layout.tag_of g.L.Layout.ways g.L.Layout.whole g.L.Layout.serves g.L.Layout.admitted g.L.Layout.act_of c.args.sys.now.procs c.args.sys.now.callers in
+    let F = layouts_on g.L.Kind.object g.L.Layout.shapes g.L.Layout.tag_of g.L.Layout.ways g.L.Layout.whole g.L.Layout.serves g.L.Layout.admitted g.L.Layout.act_of c.args.sys.now.procs c.args.sys.now.callers in
     gives_next F c.args.sys.now.layouts c.args.pass.now c.loop-cell.pass c.args.cells.items c.loop-cell.cells.items c.pop.new.self.items c.in-Some.cell
     c.loop-cell.invariant c.in-Some.ensures.items c.give_next.new.pass c.give_next.ensures.same c.give_next.ensures.comes
 

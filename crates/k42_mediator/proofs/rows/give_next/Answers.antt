@@ -14,7 +14,7 @@ use Rattle.k42_mediator.proofs.rows.give_next.Goals as goal
 
 pub put-requires-clause-may : goal.put-requires-clause-may
 put-requires-clause-may g c κs within =
-    let F = layouts_on g.L.Kind.object g.L.Layout.tag_of g.L.Layout.ways g.L.Layout.whole g.L.Layout.serves g.L.Layout.admitted g.L.Layout.act_of c.args.sys.now.procs c.args.sys.now.callers in
+    let F = layouts_on g.L.Kind.object g.L.Layout.shapes g.L.Layout.tag_of g.L.Layout.ways g.L.Layout.whole g.L.Layout.serves g.L.Layout.admitted g.L.Layout.act_of c.args.sys.now.procs c.args.sys.now.callers in
     let v = c.args.pass.now.view in let cell = c.args.cell in let ready = c.requires.ready in
     subst (λ n. MayPut F c.args.sys.now.layouts c.args.pass.now.seat n cell v) (sym c.number-number.ensures)
     (may_put F c.args.sys.now.layouts c.args.pass.now.seat cell.number v cell refl ready.cell

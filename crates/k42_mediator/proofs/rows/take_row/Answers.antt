@@ -15,7 +15,7 @@ take_next-requires-clause-another g c κs within =
 
 pub loop-place-preserved : goal.loop-place-preserved
 loop-place-preserved g c =
-    let F = layouts_on g.L.Kind.object g.L.Layout.tag_of g.L.Layout.ways g.L.Layout.whole g.L.Layout.serves g.L.Layout.admitted g.L.Layout.act_of c.args.sys.now.procs c.args.sys.now.callers in
+    let F = layouts_on g.L.Kind.object g.L.Layout.shapes g.L.Layout.tag_of g.L.Layout.ways g.L.Layout.whole g.L.Layout.serves g.L.Layout.admitted g.L.Layout.act_of c.args.sys.now.procs c.args.sys.now.callers in
     let next = c.take_next.ensures in let lt = c.loop-place-test.true in (
       omega (arith, lt),
       takes_next F c.args.sys.now.layouts c.args.object c.args.row c.args.pass.now c.args.cells.now.items (vec_len c.args.cells.now) (vec_capacity c.args.cells.now)

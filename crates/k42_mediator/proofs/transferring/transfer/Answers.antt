@@ -17,12 +17,12 @@ use Rattle.k42_mediator.proofs.transferring.transfer.Goals as goal
 
 pub returns-in_err-cells-clause-left : goal.returns-in_err-cells-clause-left
 returns-in_err-cells-clause-left g c = λ v same.
-    let F = layouts_on g.L.Kind.object g.L.Layout.tag_of g.L.Layout.ways g.L.Layout.whole g.L.Layout.serves g.L.Layout.admitted g.L.Layout.act_of c.args.sys.now.procs c.args.sys.now.callers in
+    let F = layouts_on g.L.Kind.object g.L.Layout.shapes g.L.Layout.tag_of g.L.Layout.ways g.L.Layout.whole g.L.Layout.serves g.L.Layout.admitted g.L.Layout.act_of c.args.sys.now.procs c.args.sys.now.callers in
     left_always F c.args.sys.now.layouts c.args.pass.now.seat (object_swapped c.args.pass.now.view) v (ap (λ (x : Visitor). x.swap) same ∙ c.requires.moved.moved)
 
 pub returns-clause-left : goal.returns-clause-left
 returns-clause-left g c = λ v same.
-    let F = layouts_on g.L.Kind.object g.L.Layout.tag_of g.L.Layout.ways g.L.Layout.whole g.L.Layout.serves g.L.Layout.admitted g.L.Layout.act_of c.args.sys.now.procs c.args.sys.now.callers in
+    let F = layouts_on g.L.Kind.object g.L.Layout.shapes g.L.Layout.tag_of g.L.Layout.ways g.L.Layout.whole g.L.Layout.serves g.L.Layout.admitted g.L.Layout.act_of c.args.sys.now.procs c.args.sys.now.callers in
     left_always F c.args.sys.now.layouts c.args.pass.now.seat (object_swapped c.args.pass.now.view) v (ap (λ (x : Visitor). x.swap) same ∙ c.requires.moved.moved)
 
 pub take_row-requires-2-clause-others : goal.take_row-requires-2-clause-others

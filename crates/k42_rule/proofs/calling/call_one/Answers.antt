@@ -15,18 +15,20 @@ use Rattle.k42_board.specs.Words.{lock_word}
 use Rattle.k42_board.specs.declared.view.View.TheVariants.{Crew}
 use Rattle.k42_rule.proofs.KeptNext.{kept_call}
 use Rattle.k42_rule.proofs.Pushed.{drawn_later, kept_drawn, mirrors_drawn}
+use Rattle.k42_rule.proofs.ShapesKept.{seat_shapes, known_on, fits_on}
 use Rattle.k42_rule.proofs.calling.call_one.Goals as goal
 
 -- what the pass keeps by itself
 pub invariant_of-pass-2 : goal.invariant_of-pass-2
 invariant_of-pass-2 g c =
     let key = c.sys.inside.board.shared.key in
-    let F = layouts_on g.L.Kind.object g.L.Layout.tag_of g.L.Layout.ways g.L.Layout.whole g.L.Layout.serves g.L.Layout.admitted g.L.Layout.act_of key.procs key.callers.items in
+    let F = layouts_on g.L.Kind.object g.L.Layout.shapes g.L.Layout.tag_of g.L.Layout.ways g.L.Layout.whole g.L.Layout.serves g.L.Layout.admitted g.L.Layout.act_of key.procs key.callers.items in
     let n : ℕ = c.args.cell in let op = c.args.op.now in let reply = c.call_cell.new.reply in let old = c.pass.invariant in let own = old.0.own_is in
     let v = pass_in c.pass.inside.seat.me.0 in let is = c.in_ok-stamp.ensures.called in let stamp = c.in_ok-stamp.stamp in
     let cells = stepped_cell F key.layouts.items c.args.layout.now c.args.place n op is.content ∷ [] in let w = lifted_by n is.content v in let entry = entry_at cells op reply w in
     let now = logs (put_at (lock_word n) (is_some is.told.part)) (put_view n (called_by F key.layouts.items c.args.layout.now c.args.place n op is.content reply v)) in
     let seated = c.in_ok-stamp.ensures.alone ∙ (λ j. (Crew (is.put.knows j ∷ []), [])) in
+    let same = seat_shapes c.call_cell.new.seat.me v now seated refl in
     let last = last_noted w.notes (is.content.number ∷ []) in
     let next : stamp ≡ max c.pass.inside.clock last + 1 = is.stamped ∙ (λ j. max (sym (ap (λ (o : Own). o.clock) own) j) last + 1) in
     let few = subst (λ (p : PassSeen _ _ _). length p.view.taker.mine < PASS_ENTRIES) (sym c.pass.view_is) c.requires.few in
@@ -41,7 +43,7 @@ invariant_of-pass-2 g c =
       old.5,
       old.6,
       old.7,
-      old.8,
+      known_on v.shapes _ _ _ same old.8,
       old.9,
       old.10,
       old.11,
@@ -49,7 +51,7 @@ invariant_of-pass-2 g c =
       kept_drawn _ c.pass.inside.number c.pass.inside.home c.pass.inside.kept c.store_call.new.kept c.pass.inside.clock last v entry stamp c.call_cell.new.seat.me now old.13 (sym is.stamped) next
           (sym (ap (λ (o : Own). o.number) own)) few kept c.store_call.ensures.owner c.store_call.ensures.first seated refl,
       subst (λ k. k ≤ LAST_STAMP) (sym is.stamped) (is.drawn 0).finds,
-      old.15,
+      fits_on v.shapes _ _ _ _ _ same old.15,
       old.16,
       old.17,
       subst (λ z. IsTied z c.pass.inside.post.me.view.client) (sym c.in_ok-stamp.ensures.ours.0) old.18,

@@ -8,6 +8,7 @@ use Rattle.k42_board.specs.Views.{pass_in}
 use Rattle.k42_rule.proofs.Entries.{alone_entry, alone_told}
 use Rattle.k42_rule.proofs.KeptNext.{may_keep}
 use Rattle.k42_rule.proofs.Pushed.{drawer_is, drawn_later, kept_drawn, mirrors_drawn}
+use Rattle.k42_rule.proofs.ShapesKept.{seat_shapes, known_on, fits_on}
 use Rattle.k42_rule.proofs.drawing.draw_alone.Goals as goal
 
 pub store-requires-clause-may : goal.store-requires-clause-may
@@ -37,7 +38,7 @@ returns-clause-later g c =
 pub invariant_of-pass : goal.invariant_of-pass
 invariant_of-pass g c =
     let old = c.pass.invariant in let v = pass_in c.pass.inside.seat.me.0 in
-    let taken = c.alone_word.ensures 0 in
+    let taken = c.alone_word.ensures 0 in let same = seat_shapes c.alone_word.new.seat.me v _ taken.alone refl in
     let few = subst (λ (p : PassSeen _ _ _). length p.view.taker.mine < PASS_ENTRIES) (sym c.pass.view_is) c.requires.may.few in (
       mirrors_drawn _ c.pass.inside.seat.me c.alone_word.new.seat.me _ _ _ old.0 taken.alone refl refl old.0.told refl,
       old.1,
@@ -47,14 +48,14 @@ invariant_of-pass g c =
       old.5,
       old.6,
       old.7,
-      old.8,
+      known_on v.shapes _ _ _ same old.8,
       old.9,
       old.10,
       old.11,
       old.12,
       kept_drawn _ c.pass.inside.number c.pass.inside.home c.pass.inside.kept c.store.new.kept c.pass.inside.clock 0 v _ _ c.alone_word.new.seat.me _ old.13 refl c.stamp_after-stamp.ensures refl few c.store.ensures.entries c.store.ensures.owner c.store.ensures.first taken.alone refl,
       taken.takes.finds,
-      old.15,
+      fits_on v.shapes _ _ _ _ _ same old.15,
       old.16,
       old.17,
       subst (λ z. IsTied z c.pass.inside.post.me.view.client) (sym taken.table) old.18,

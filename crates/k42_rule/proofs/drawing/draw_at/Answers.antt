@@ -19,6 +19,7 @@ use Rattle.k42_board.proofs.Noted.{all_due, stamp_held}
 use Rattle.k42_rule.proofs.Drawn.{knows_drawn, takes_drawn}
 use Rattle.k42_rule.proofs.KeptNext.{index_few, kept_call}
 use Rattle.k42_rule.proofs.Pushed.{drawer_is, drawn_later, kept_drawn, mirrors_drawn}
+use Rattle.k42_rule.proofs.ShapesKept.{seat_shapes, known_on, fits_on}
 use Rattle.k42_rule.proofs.drawing.draw_at.Goals as goal
 
 pub call_word-requires-clause-may : goal.call_word-requires-clause-may
@@ -26,7 +27,7 @@ call_word-requires-clause-may g c κs within = record {
   here = search rules;
   may =
       subst (λ (z : SysSeen _ × PassSeen _ _ _). MayDrawCall
-      (layouts_on g.L.Kind.object g.L.Layout.tag_of g.L.Layout.ways g.L.Layout.whole g.L.Layout.serves g.L.Layout.admitted g.L.Layout.act_of z.0.procs z.0.callers)
+      (layouts_on g.L.Kind.object g.L.Layout.shapes g.L.Layout.tag_of g.L.Layout.ways g.L.Layout.whole g.L.Layout.serves g.L.Layout.admitted g.L.Layout.act_of z.0.procs z.0.callers)
       z.0.layouts c.args.cells.now c.args.op.now c.args.reply.now z.1.view) (λ j. (sym c.sys.view_is j, sym c.pass.view_is j)) c.requires.may;
 }
 
@@ -97,7 +98,8 @@ invariant_of-pass g c =
     let kept = c.store_call.ensures.entries
     ∙ kept_call _ c.pass.inside.number c.pass.inside.home v.taker.mine c.pass.inside.clock c.pass.inside.kept old.13 v _ cells c.args.op.now c.args.reply.now c.stamp_after-stamp.result
     c.object_in-object.result c.row_in-row.result c.first_of-number.result c.pass.inside.active own refl refl refl stamped c.object_in-object.ensures c.row_in-row.ensures c.first_of-number.ensures.first refl in
-    let seated = c.tell_all.ensures.seated ∙ (λ i. (Crew (untold_view [] (pass_in (told i).0) ∷ []), [])) in (
+    let seated = c.tell_all.ensures.seated ∙ (λ i. (Crew (untold_view [] (pass_in (told i).0) ∷ []), [])) in
+    let same = seat_shapes c.tell_all.new.seat.me v _ seated refl in (
       mirrors_drawn _ c.pass.inside.seat.me c.tell_all.new.seat.me _ _ _ old.0 seated refl refl refl (sym stamped),
       old.1,
       old.2,
@@ -106,14 +108,14 @@ invariant_of-pass g c =
       old.5,
       old.6,
       old.7,
-      old.8,
+      known_on v.shapes _ _ _ same old.8,
       old.9,
       old.10,
       old.11,
       old.12,
       kept_drawn _ c.pass.inside.number c.pass.inside.home c.pass.inside.kept c.store_call.new.kept c.pass.inside.clock c.last_at.result v _ _ c.tell_all.new.seat.me _ old.13 (sym stamped) c.stamp_after-stamp.ensures (sym (ap (λ (o : Own). o.number) own)) few kept c.store_call.ensures.owner c.store_call.ensures.first seated refl,
       subst (λ n. n ≤ LAST_STAMP) (sym stamped) taken.takes.finds,
-      old.15,
+      fits_on v.shapes _ _ _ _ _ same old.15,
       old.16,
       old.17,
       subst (λ z. IsTied z c.pass.inside.post.me.view.client) (sym (c.tell_all.ensures.ours.0 ∙ taken.table)) old.18,

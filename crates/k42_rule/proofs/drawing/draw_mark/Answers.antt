@@ -18,6 +18,7 @@ use Rattle.k42_rule.proofs.Drawn.{knows_drawn, takes_drawn}
 use Rattle.k42_rule.proofs.Entries.{mark_entry, over_told}
 use Rattle.k42_rule.proofs.KeptNext.{may_keep}
 use Rattle.k42_rule.proofs.Pushed.{drawer_is, drawn_later, kept_drawn, mirrors_drawn}
+use Rattle.k42_rule.proofs.ShapesKept.{seat_shapes, known_on, fits_on}
 use Rattle.k42_rule.proofs.drawing.draw_mark.Goals as goal
 
 pub tell_cell-requires-clause-ours : goal.tell_cell-requires-clause-ours
@@ -69,7 +70,8 @@ invariant_of-pass g c =
     let old = c.pass.invariant in let v = pass_in c.pass.inside.seat.me.0 in
     let taken = c.mark_word.ensures 0 in let told = taken.alone in
     let few = subst (λ (p : PassSeen _ _ _). length p.view.taker.mine < PASS_ENTRIES) (sym c.pass.view_is) c.requires.may.few in
-    let seated = c.tell_cell.ensures.seated ∙ (λ i. (Crew (untold_view (after_first (pass_in (told i).0).untold) (pass_in (told i).0) ∷ []), [])) in (
+    let seated = c.tell_cell.ensures.seated ∙ (λ i. (Crew (untold_view (after_first (pass_in (told i).0).untold) (pass_in (told i).0) ∷ []), [])) in
+    let same = seat_shapes c.tell_cell.new.seat.me v _ seated refl in (
       mirrors_drawn _ c.pass.inside.seat.me c.tell_cell.new.seat.me _ _ _ old.0 seated refl refl refl refl,
       old.1,
       old.2,
@@ -78,14 +80,14 @@ invariant_of-pass g c =
       old.5,
       old.6,
       old.7,
-      old.8,
+      known_on v.shapes _ _ _ same old.8,
       old.9,
       old.10,
       old.11,
       old.12,
       kept_drawn _ c.pass.inside.number c.pass.inside.home c.pass.inside.kept c.store.new.kept c.pass.inside.clock c.last_stamp.result v _ _ c.tell_cell.new.seat.me _ old.13 refl c.stamp_after-stamp.ensures refl few c.store.ensures.entries c.store.ensures.owner c.store.ensures.first seated refl,
       taken.takes.finds,
-      old.15,
+      fits_on v.shapes _ _ _ _ _ same old.15,
       old.16,
       old.17,
       subst (λ z. IsTied z c.pass.inside.post.me.view.client) (sym (c.tell_cell.ensures.ours.0 ∙ taken.table)) old.18,

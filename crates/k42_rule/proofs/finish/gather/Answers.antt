@@ -11,7 +11,7 @@ use Rattle.k42_rule.proofs.finish.gather.Goals as goal
 pub join_seat-requires : goal.join_seat-requires
 join_seat-requires g c =
     let h = c.loop-pass.invariant in let own = c.pass.inside.seat.me in let mirrors = c.pass.invariant.0 in let key = c.args.board.now.shared.key in
-    let F = layouts_on g.L.Kind.object g.L.Layout.tag_of g.L.Layout.ways g.L.Layout.whole g.L.Layout.serves g.L.Layout.admitted g.L.Layout.act_of key.procs key.callers.items in (
+    let F = layouts_on g.L.Kind.object g.L.Layout.shapes g.L.Layout.tag_of g.L.Layout.ways g.L.Layout.whole g.L.Layout.serves g.L.Layout.admitted g.L.Layout.act_of key.procs key.callers.items in (
       h.ours ∙ c.requires.ours.0,
       ap (λ (p : PassSeen _ _ _). p.table) c.pass.view_is ∙ h.theirs 0 c.in-Some.pass (ap (λ (l : List (PassSeen _ _ _)). slice_get l 0) c.in-Some.ensures.steps.0),
       ap (λ (m : Seated _ _ _). m.1) mirrors.seat,

@@ -17,7 +17,7 @@ returns-clause-is g c =
     let cells = c.args.cells.now in
     let act = g.L.Layout.act_of c.args.to.now in
     let met = g.met.L.Layout g.world.𝓛 g.world.𝓜 g.world.𝓡 ((λ s x. x), (λ x. x), (λ x. x), λ x. x) in
-    let F = layouts_on g.L.Kind.object g.L.Layout.tag_of g.L.Layout.ways g.L.Layout.whole g.L.Layout.serves g.L.Layout.admitted g.L.Layout.act_of sys.procs sys.callers in
+    let F = layouts_on g.L.Kind.object g.L.Layout.shapes g.L.Layout.tag_of g.L.Layout.ways g.L.Layout.whole g.L.Layout.serves g.L.Layout.admitted g.L.Layout.act_of sys.procs sys.callers in
     let own = c.pass.invariant.0.own_is ∙ ap (λ (p : PassSeen _ _ _). own_in p.view) c.pass.view_is in
     let procs : c.sys.inside.procs ≡ sys.procs = c.sys.invariant.3 ∙ ap (λ (s : SysSeen _). s.procs) c.sys.view_is in
     λ j. record {

@@ -1,5 +1,7 @@
-use Rattle.std.proofs.Common.{rules, refl, ◌≡◌, ℕ, ◌+◌, ◌<◌, ◌≤◌, true, List, ◌++◌, Some, length, take, drop, sym, ap, ◌∙◌, subst, arith}
+use Rattle.std.proofs.Common.{rules, refl, ◌≡◌, ℕ, ◌+◌, ◌<◌, ◌≤◌, true, List, [], ◌++◌, Some, length, get_or, take, drop, sym, ap, ◌∙◌, subst, arith}
 use Rattle.std.specs.Prelude.{max}
+use Rattle.k42_shapes.specs.declared.shape.Shape.{Shape}
+use Rattle.k42_shapes.specs.Shapes.{IsKnownTag}
 use Rattle.k42_kinds.specs.declared.entry.Entry.{Entry}
 use Rattle.k42_joined.specs.Drawing.{first_cell}
 use Rattle.phase_core.specs.Stages.{is_moved, object_named}
@@ -28,6 +30,8 @@ use Rattle.k42_rule.proofs.HandedSeat.{untold_is, due_is, mine_is, mirrors_is, s
 use Rattle.turn_core.specs.Stamps.{last_stamp}
 use Rattle.k42_rule.proofs.KeptNext.{may_keep}
 use Rattle.k42_rule.proofs.Pushed.{drawer_is, drawn_later, kept_drawn, longer_drawn}
+use Rattle.k42_rule.proofs.DeclaredShapes.{shapes_asked}
+use Rattle.k42_rule.proofs.ShapesKept.{known_on, fits_on}
 use Rattle.k42_rule.proofs.handing.hand_at.Goals as goal
 
 -- what the step has told, of the view that the caller sees
@@ -47,7 +51,7 @@ tell_all-requires-clause-seated g c κs within = let taken = c.hand_word.ensures
 pub tell_all-requires-clause-untold : goal.tell_all-requires-clause-untold
 tell_all-requires-clause-untold g c κs within =
     let sys = c.args.sys.now in let v = c.args.pass.now.view in let cells = c.args.cells.now in let entry = c.done_entry-entry.result in let tag = g.L.Layout.tag_of c.args.to.now in
-    let F = layouts_on g.L.Kind.object g.L.Layout.tag_of g.L.Layout.ways g.L.Layout.whole g.L.Layout.serves g.L.Layout.admitted g.L.Layout.act_of sys.procs sys.callers in
+    let F = layouts_on g.L.Kind.object g.L.Layout.shapes g.L.Layout.tag_of g.L.Layout.ways g.L.Layout.whole g.L.Layout.serves g.L.Layout.admitted g.L.Layout.act_of sys.procs sys.callers in
     let taken = c.hand_word.ensures 0 in
     let told = told_of cells entry tag c.sys.inside.board.shared.key.procs sys.procs (lock_word (first_cell (numbers_of cells))) (pass_in c.pass.inside.seat.me.0) v c.hand_word.new.seat.me
     (ap (λ (s : SysSeen _). s.procs) c.sys.view_is) (ap (λ (p : PassSeen _ _ _). p.view) c.pass.view_is) (taken.alone, taken.takes.finds) in
@@ -56,7 +60,7 @@ tell_all-requires-clause-untold g c κs within =
 pub tell_all-requires-clause-due : goal.tell_all-requires-clause-due
 tell_all-requires-clause-due g c κs within =
     let sys = c.args.sys.now in let v = c.args.pass.now.view in let cells = c.args.cells.now in let entry = c.done_entry-entry.result in let tag = g.L.Layout.tag_of c.args.to.now in
-    let F = layouts_on g.L.Kind.object g.L.Layout.tag_of g.L.Layout.ways g.L.Layout.whole g.L.Layout.serves g.L.Layout.admitted g.L.Layout.act_of sys.procs sys.callers in
+    let F = layouts_on g.L.Kind.object g.L.Layout.shapes g.L.Layout.tag_of g.L.Layout.ways g.L.Layout.whole g.L.Layout.serves g.L.Layout.admitted g.L.Layout.act_of sys.procs sys.callers in
     let procs : c.sys.inside.board.shared.key.procs ≡ sys.procs = ap (λ (s : SysSeen _). s.procs) c.sys.view_is in
     let taken = c.hand_word.ensures 0 in
     let told = told_of cells entry tag c.sys.inside.board.shared.key.procs sys.procs (lock_word (first_cell (numbers_of cells))) (pass_in c.pass.inside.seat.me.0) v c.hand_word.new.seat.me
@@ -80,14 +84,24 @@ store-requires-clause-may g c =
 pub invariant_of-pass : goal.invariant_of-pass
 invariant_of-pass g c =
     let sys = c.args.sys.now in let v = c.args.pass.now.view in let cells = c.args.cells.now in let entry = c.done_entry-entry.result in let tag = g.L.Layout.tag_of c.args.to.now in
-    let F = layouts_on g.L.Kind.object g.L.Layout.tag_of g.L.Layout.ways g.L.Layout.whole g.L.Layout.serves g.L.Layout.admitted g.L.Layout.act_of sys.procs sys.callers in
+    let F = layouts_on g.L.Kind.object g.L.Layout.shapes g.L.Layout.tag_of g.L.Layout.ways g.L.Layout.whole g.L.Layout.serves g.L.Layout.admitted g.L.Layout.act_of sys.procs sys.callers in
     let same : pass_in c.pass.inside.seat.me.0 ≡ v = ap (λ (p : PassSeen _ _ _). p.view) c.pass.view_is in
     let taken = c.hand_word.ensures 0 in
     let told = told_of cells entry tag c.sys.inside.board.shared.key.procs sys.procs (lock_word (first_cell (numbers_of cells))) (pass_in c.pass.inside.seat.me.0) v c.hand_word.new.seat.me
     (ap (λ (s : SysSeen _). s.procs) c.sys.view_is) same (taken.alone, taken.takes.finds) in
     let old = c.pass.invariant in
     let own = old.0.own_is ∙ ap own_in same in
-    let mine_now = mine_is F sys.layouts cells c.args.to.now c.args.answer v c.requires.may entry tag c.hand_word.new.seat.me (lock_word (first_cell (numbers_of cells))) told.0 in (
+    let mine_now = mine_is F sys.layouts cells c.args.to.now c.args.answer v c.requires.may entry tag c.hand_word.new.seat.me (lock_word (first_cell (numbers_of cells))) told.0 in
+    let met = g.met.L.Layout g.world.𝓛 g.world.𝓜 g.world.𝓡 ((λ s x. x), (λ x. x), (λ x. x), λ x. x) in
+    let stays : (pass_in c.tell_all.new.seat.me.0).shapes ≡ (pass_in c.pass.inside.seat.me.0).shapes =
+    ap (λ (m : Seated _ _ _). (pass_in m.0).shapes) c.tell_all.ensures.seated ∙ ap (λ (m : Seated _ _ _). (pass_in m.0).shapes) taken.alone in
+    let named : object_named c.pass.inside.swap ≡ c.requires.may.object = ap (λ (o : Own). object_named o.swap) own ∙ ap object_named c.requires.may.moved in
+    let own_shapes : get_or (pass_in c.pass.inside.seat.me.0).shapes (object_named c.pass.inside.swap) [] ≡ g.L.Layout.shapes c.args.to.now =
+    shapes_asked g.L.Layout.shapes c.sys.inside.board.shared.key.layouts.items sys.layouts sys.shapes (ap (λ (s : SysSeen _). s.layouts) c.sys.view_is) (ap (λ (s : SysSeen _). s.shapes) c.sys.view_is)
+    (object_named c.pass.inside.swap) c.requires.may.object c.requires.may.declaration (pass_in c.pass.inside.seat.me.0).shapes
+    (ap (λ (x : PassView _ _ _). x.shapes) same ∙ c.requires.shapes) named c.requires.may.declares ∙ sym (met.alike c.args.to.now c.requires.may.declaration c.requires.may.kind) in
+    let known_tag : IsKnownTag (get_or (pass_in c.pass.inside.seat.me.0).shapes (object_named c.pass.inside.swap) []) c.tag.result =
+    subst (λ (z : List Shape × ℕ). IsKnownTag z.0 z.1) (λ j. (sym own_shapes j, sym c.tag.ensures j)) c.requires.may.known in (
       mirrors_is F sys.layouts cells c.args.to.now c.args.answer v c.requires.may entry tag c.hand_word.new.seat.me (lock_word (first_cell (numbers_of cells))) told.0 c.tell_all.new.seat.me c.tell_all.ensures.seated
           c.pass.inside.seat.me _ _ old.0 same (λ j. record (own_in (pass_in c.pass.inside.seat.me.0)) {
             number = c.pass.inside.number;
@@ -114,7 +128,7 @@ invariant_of-pass g c =
       old.5,
       old.6,
       old.7,
-      old.8,
+      known_on (pass_in c.pass.inside.seat.me.0).shapes _ _ _ stays old.8,
       old.9,
       old.10,
       old.11,
@@ -122,26 +136,27 @@ invariant_of-pass g c =
       kept_drawn _ c.pass.inside.number c.pass.inside.home c.pass.inside.kept c.store.new.kept c.pass.inside.clock (last_noted v.notes (numbers_of cells)) v entry entry.stamp c.tell_all.new.seat.me _ (subst (λ (x : PassView _ _ _). HasKept (record { what = c.pass.inside.keep; given = c.pass.inside.given; since = c.pass.inside.since }) c.pass.inside.number c.pass.inside.home x.taker.mine c.pass.inside.clock c.pass.inside.kept) same old.13) refl
           (stamp_told F sys.layouts cells c.args.to.now c.args.answer v c.requires.may entry tag (g.L.Layout.act_of c.args.to.now) c.done_entry-entry.ensures.is ∙ ap (λ (o : Own). max o.clock (last_noted v.notes (numbers_of cells)) + 1) (sym own)) (ap (λ (e : Entry _ _). e.caller) c.done_entry-entry.ensures.is ∙ ap (λ (o : Own). o.number) (sym own)) c.requires.may.few c.store.ensures.entries c.store.ensures.owner c.store.ensures.first c.tell_all.ensures.seated mine_now,
       told.1,
-      fits_handed c.pass.inside.swap c.pass.inside.turned c.pass.inside.handed c.pass.inside.last old.15 _
-          (ap (λ (o : Own). is_moved o.swap) own ∙ ap is_moved c.requires.may.moved),
+      fits_on (pass_in c.pass.inside.seat.me.0).shapes _ _ _ _ _ stays
+          (fits_handed (pass_in c.pass.inside.seat.me.0).shapes c.pass.inside.swap c.pass.inside.turned c.pass.inside.handed c.pass.inside.last old.15 c.tag.result
+          (ap (λ (o : Own). is_moved o.swap) own ∙ ap is_moved c.requires.may.moved) known_tag),
       old.16,
       old.17,
       subst (λ table. IsTied table c.pass.inside.post.me.view.client) (sym (c.tell_all.ensures.ours.0 ∙ taken.table)) old.18,
-      subst (λ n. n ≤ 2) (sym c.tag.ensures) c.requires.may.known,
+      (let is = c.tag.ensures in let known = c.requires.may.known in let most = met.few c.args.to.now in omega (arith, is, known, most)),
       old.20,
     )
 
 pub returns-clause-stamp : goal.returns-clause-stamp
 returns-clause-stamp g c =
     let sys = c.args.sys.now in
-    let F = layouts_on g.L.Kind.object g.L.Layout.tag_of g.L.Layout.ways g.L.Layout.whole g.L.Layout.serves g.L.Layout.admitted g.L.Layout.act_of sys.procs sys.callers in
+    let F = layouts_on g.L.Kind.object g.L.Layout.shapes g.L.Layout.tag_of g.L.Layout.ways g.L.Layout.whole g.L.Layout.serves g.L.Layout.admitted g.L.Layout.act_of sys.procs sys.callers in
     stamp_told F sys.layouts c.args.cells.now c.args.to.now c.args.answer c.args.pass.now.view c.requires.may c.done_entry-entry.result (g.L.Layout.tag_of c.args.to.now)
     (g.L.Layout.act_of c.args.to.now) c.done_entry-entry.ensures.is
 
 pub returns-clause-later : goal.returns-clause-later
 returns-clause-later g c =
     let sys = c.args.sys.now in let v = c.args.pass.now.view in let cells = c.args.cells.now in let entry = c.done_entry-entry.result in let tag = g.L.Layout.tag_of c.args.to.now in
-    let F = layouts_on g.L.Kind.object g.L.Layout.tag_of g.L.Layout.ways g.L.Layout.whole g.L.Layout.serves g.L.Layout.admitted g.L.Layout.act_of sys.procs sys.callers in
+    let F = layouts_on g.L.Kind.object g.L.Layout.shapes g.L.Layout.tag_of g.L.Layout.ways g.L.Layout.whole g.L.Layout.serves g.L.Layout.admitted g.L.Layout.act_of sys.procs sys.callers in
     let own = c.pass.invariant.0.own_is ∙ ap own_in (ap (λ (p : PassSeen _ _ _). p.view) c.pass.view_is) in
     subst (λ (p : PassSeen _ _ _). last_stamp p.view.taker.mine < entry.stamp) c.pass.view_is
     (drawn_later _ c.pass.inside.number c.pass.inside.home (pass_in c.pass.inside.seat.me.0).taker.mine c.pass.inside.kept c.pass.inside.clock (last_noted v.notes (numbers_of cells)) entry.stamp c.pass.invariant.13
@@ -155,7 +170,7 @@ returns-clause-told g c =
 pub returns-clause-drawn : goal.returns-clause-drawn
 returns-clause-drawn g c =
     let sys = c.args.sys.now in let v = c.args.pass.now.view in let cells = c.args.cells.now in let taken = c.hand_word.ensures in
-    let F = layouts_on g.L.Kind.object g.L.Layout.tag_of g.L.Layout.ways g.L.Layout.whole g.L.Layout.serves g.L.Layout.admitted g.L.Layout.act_of sys.procs sys.callers in
+    let F = layouts_on g.L.Kind.object g.L.Layout.shapes g.L.Layout.tag_of g.L.Layout.ways g.L.Layout.whole g.L.Layout.serves g.L.Layout.admitted g.L.Layout.act_of sys.procs sys.callers in
     let procs : c.sys.inside.board.shared.key.procs ≡ sys.procs = ap (λ (s : SysSeen _). s.procs) c.sys.view_is in
     let same : pass_in c.pass.inside.seat.me.0 ≡ v = ap (λ (p : PassSeen _ _ _). p.view) c.pass.view_is in
     let after = λ (n : ℕ) (e : Entry _ _) (w : PassView _ _ _). took steps.Draw (lock_word (first_cell (numbers_of cells))) 0 (handed_at (take n cells) (drop n cells) e (g.L.Layout.tag_of c.args.to.now) w) in

@@ -15,20 +15,20 @@ use Rattle.k42_mediator.specs.Parts.{parts_from}
 use Rattle.k42_mediator.proofs.AfterMark.{later_stamp}
 use Rattle.k42_mediator.proofs.RowReady.{written_back, told_numbers}
 use Rattle.k42_runtime.specs.Reaching.{MayGiveBack}
-use Rattle.k42_runtime.specs.Stepping.{MayStepRow, HasSteppedCells}
-use Rattle.k42_runtime.specs.Systems.{any_layouts}
+use Rattle.k42_runtime.specs.Stepping.{AreRow, MayStepRow, HasSteppedCells}
+use Rattle.k42_runtime.specs.Systems.{any_layouts, cells_in}
 use Rattle.k42_runtime.proofs.Agreed.{watched_agrees}
 use Rattle.k42_runtime.proofs.CallMade.{may_step, may_draw, numbers_stepped, long_stepped, may_give_taken, may_give_drawn, has_made}
 use Rattle.k42_runtime.proofs.serving.make_all.Goals as goal
 
-pub step_row-requires-clause-few : goal.step_row-requires-clause-few
-step_row-requires-clause-few c =
+pub step_row-requires-clause-cells : goal.step_row-requires-clause-cells
+step_row-requires-clause-cells c =
     let procs : ℕ = c.args.sys.now.procs in let F = any_layouts procs c.args.sys.now.callers in let declared = c.args.sys.now.layouts in let laws = c.layouts_are_lawful.ensures in
     let agrees = watched_agrees in
     let layout = c.args.layout.now in let v = c.args.pass.now.view in let op = c.args.op.now in let items = c.args.cells.now.items in
     let has = c.requires.has in let is = c.procs-procs.ensures.is in let few : procs ≤ 8 = subst (λ k. k ≤ 8) is c.procs-procs.ensures.few in
-    let long : length items ≡ procs = (may_step F laws declared agrees v layout All op items has few).0 in
-    let size = ap length c.as_mut_slice.ensures.value in omega (arith, long, size, is)
+    subst (λ (z : ℕ × List (Content _ Op Reply)). AreRow z.0 (cells_in layout z.0) z.1)
+    (λ j. (sym is j, sym c.as_mut_slice.ensures.value j)) (may_step F laws declared agrees v layout All op items has few).0
 
 pub step_row-requires-clause-row : goal.step_row-requires-clause-row
 step_row-requires-clause-row c =
@@ -36,7 +36,7 @@ step_row-requires-clause-row c =
     let agrees = watched_agrees in
     let layout = c.args.layout.now in let v = c.args.pass.now.view in let op = c.args.op.now in let items = c.args.cells.now.items in
     let has = c.requires.has in let is = c.procs-procs.ensures.is in let few : procs ≤ 8 = subst (λ k. k ≤ 8) is c.procs-procs.ensures.few in
-    subst (λ (z : ℕ × List (Content _ Op Reply)). MayStepRow (F.ways_of layout) z.0 (F.Whole layout) (parts_from (F.ways_of layout) z.0 0 z.1) op)
+    subst (λ (z : ℕ × List (Content _ Op Reply)). MayStepRow (F.ways_of layout) z.0 (F.Whole layout) (parts_from (F.ways_of layout) z.0 0 (take (cells_in layout z.0) z.1)) op)
     (λ j. (sym is j, sym c.as_mut_slice.ensures.value j)) (may_step F laws declared agrees v layout All op items has few).1
 
 pub returns-in_default-clause-may : goal.returns-in_default-clause-may
@@ -57,8 +57,8 @@ draw_call-requires-clause-may c κs =
     let layout = c.args.layout.now in let v = c.args.pass.now.view in let op = c.args.op.now in let items = c.args.cells.now.items in
     let has = c.requires.has in let is = c.procs-procs.ensures.is in let few : procs ≤ 8 = subst (λ k. k ≤ 8) is c.procs-procs.ensures.few in
     let reply = c.in-Ok.replied in let new = c.step_row.new.cells in
-    let made : HasSteppedCells (F.ways_of layout) procs op All reply items new =
-    subst (λ (z : ℕ × List (Content _ Op Reply)). HasSteppedCells (F.ways_of layout) z.0 op All reply z.1 new) (λ j. (is j, c.as_mut_slice.ensures.value j)) (c.in-Ok.ensures.replied, c.in-Ok.ensures.moved) in
+    let made : HasSteppedCells (F.ways_of layout) procs (cells_in layout procs) op All reply items new =
+    subst (λ (z : ℕ × List (Content _ Op Reply)). HasSteppedCells (F.ways_of layout) z.0 (cells_in layout z.0) op All reply z.1 new) (λ j. (is j, c.as_mut_slice.ensures.value j)) (c.in-Ok.ensures.replied, c.in-Ok.ensures.moved) in
     let cells = take c.args.cells.now.len (new ++ drop (length new) items) in
     let back : cells ≡ new =
     written_back new items c.args.cells.now.len (long_stepped F laws declared agrees v layout All op items has few reply new made) c.args.cells.now.ok.0 in
@@ -71,8 +71,8 @@ returns-clause-numbers c =
     let layout = c.args.layout.now in let v = c.args.pass.now.view in let op = c.args.op.now in let items = c.args.cells.now.items in
     let has = c.requires.has in let is = c.procs-procs.ensures.is in let few : procs ≤ 8 = subst (λ k. k ≤ 8) is c.procs-procs.ensures.few in
     let reply = c.in-Ok.replied in let new = c.step_row.new.cells in
-    let made : HasSteppedCells (F.ways_of layout) procs op All reply items new =
-    subst (λ (z : ℕ × List (Content _ Op Reply)). HasSteppedCells (F.ways_of layout) z.0 op All reply z.1 new) (λ j. (is j, c.as_mut_slice.ensures.value j)) (c.in-Ok.ensures.replied, c.in-Ok.ensures.moved) in
+    let made : HasSteppedCells (F.ways_of layout) procs (cells_in layout procs) op All reply items new =
+    subst (λ (z : ℕ × List (Content _ Op Reply)). HasSteppedCells (F.ways_of layout) z.0 (cells_in layout z.0) op All reply z.1 new) (λ j. (is j, c.as_mut_slice.ensures.value j)) (c.in-Ok.ensures.replied, c.in-Ok.ensures.moved) in
     let cells = take c.args.cells.now.len (new ++ drop (length new) items) in
     let back : cells ≡ new =
     written_back new items c.args.cells.now.len (long_stepped F laws declared agrees v layout All op items has few reply new made) c.args.cells.now.ok.0 in
@@ -86,8 +86,8 @@ returns-clause-may c =
     let layout = c.args.layout.now in let v = c.args.pass.now.view in let op = c.args.op.now in let items = c.args.cells.now.items in
     let has = c.requires.has in let is = c.procs-procs.ensures.is in let few : procs ≤ 8 = subst (λ k. k ≤ 8) is c.procs-procs.ensures.few in
     let reply = c.in-Ok.replied in let new = c.step_row.new.cells in
-    let made : HasSteppedCells (F.ways_of layout) procs op All reply items new =
-    subst (λ (z : ℕ × List (Content _ Op Reply)). HasSteppedCells (F.ways_of layout) z.0 op All reply z.1 new) (λ j. (is j, c.as_mut_slice.ensures.value j)) (c.in-Ok.ensures.replied, c.in-Ok.ensures.moved) in
+    let made : HasSteppedCells (F.ways_of layout) procs (cells_in layout procs) op All reply items new =
+    subst (λ (z : ℕ × List (Content _ Op Reply)). HasSteppedCells (F.ways_of layout) z.0 (cells_in layout z.0) op All reply z.1 new) (λ j. (is j, c.as_mut_slice.ensures.value j)) (c.in-Ok.ensures.replied, c.in-Ok.ensures.moved) in
     let cells = take c.args.cells.now.len (new ++ drop (length new) items) in
     let back : cells ≡ new =
     written_back new items c.args.cells.now.len (long_stepped F laws declared agrees v layout All op items has few reply new made) c.args.cells.now.ok.0 in
@@ -108,8 +108,8 @@ returns-clause-makes c =
     let layout = c.args.layout.now in let v = c.args.pass.now.view in let op = c.args.op.now in let items = c.args.cells.now.items in
     let has = c.requires.has in let is = c.procs-procs.ensures.is in let few : procs ≤ 8 = subst (λ k. k ≤ 8) is c.procs-procs.ensures.few in
     let reply = c.in-Ok.replied in let new = c.step_row.new.cells in
-    let made : HasSteppedCells (F.ways_of layout) procs op All reply items new =
-    subst (λ (z : ℕ × List (Content _ Op Reply)). HasSteppedCells (F.ways_of layout) z.0 op All reply z.1 new) (λ j. (is j, c.as_mut_slice.ensures.value j)) (c.in-Ok.ensures.replied, c.in-Ok.ensures.moved) in
+    let made : HasSteppedCells (F.ways_of layout) procs (cells_in layout procs) op All reply items new =
+    subst (λ (z : ℕ × List (Content _ Op Reply)). HasSteppedCells (F.ways_of layout) z.0 (cells_in layout z.0) op All reply z.1 new) (λ j. (is j, c.as_mut_slice.ensures.value j)) (c.in-Ok.ensures.replied, c.in-Ok.ensures.moved) in
     let cells = take c.args.cells.now.len (new ++ drop (length new) items) in
     let back : cells ≡ new =
     written_back new items c.args.cells.now.len (long_stepped F laws declared agrees v layout All op items has few reply new made) c.args.cells.now.ok.0 in

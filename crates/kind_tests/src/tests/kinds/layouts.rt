@@ -1,7 +1,9 @@
 //! A layout made for this test keeps the laws of layouts, and its row is handed on.
-ghost use Rattle.std.specs.Prelude.{◌≡◌, ◌==◌, ◌<◌, ◌≤◌, refl, IfOk};
+ghost use Rattle.std.specs.Prelude.{◌≡◌, ◌==◌, ◌<◌, ◌≤◌, [], ◌∷◌, refl, IfOk};
 ghost use Rattle.k42_limits.specs.declared.TheConstants.{PROCESSORS};
 ghost use Rattle.std.proofs.Common.{arith};
+ghost use Rattle.k42_shapes.specs.declared.shape.Shape.TheVariants.{One};
+ghost use Rattle.k42_shapes.specs.Shapes.{IsKnownTag};
 ghost use Rattle.k42_kinds.specs.declared.entry.Act.TheVariants.{Swap};
 ghost use Rattle.k42_kinds.specs.declared.entry.To.TheVariants.{Layout as Kept};
 ghost use Rattle.k42_kinds.specs.declared.operation.LayoutName.TheVariants.{Shared};
@@ -10,6 +12,7 @@ ghost use Rattle.k42_kinds.specs.LastAmount.{last_amount, one_part, IsOnePart, s
 
 use k42_kinds::{Act, Kind, Layout, LayoutName, Op, Reach, Reply, To};
 use k42_memory::Memory;
+use k42_shapes::Shape;
 use std::alloc::Global;
 use std::test::Fail;
 
@@ -45,6 +48,8 @@ impl Kind for LastAmount {
 impl Layout for LastAmount {
     type Part = u64;
 
+    ghost shapes = { λ _. One ∷ [] };
+
     ghost tag_of = { λ _. 0 };
 
     ghost has_tag = { λ _ tag. tag == 0 };
@@ -61,6 +66,14 @@ impl Layout for LastAmount {
 
     fn tag(&self) -> u32 {
         0
+    }
+
+    fn live(&self) -> u32 {
+        1
+    }
+
+    fn shape(&self) -> Shape {
+        Shape::One
     }
 
     fn with_tag(&self, _tag: u32) -> Self {
@@ -121,6 +134,10 @@ impl Layout for LastAmount {
 
     ghost asks = { λ _. refl };
 
+    ghost alike = { λ _ other same. refl };
+
+    ghost few = { λ _. omega arith };
+
     ghost agrees = { λ _ _ same tags. record { ways = refl; whole = λ procs parts whole. whole; served = λ state served. served } };
 }
 
@@ -131,7 +148,7 @@ fn handed_on<L: Layout>(
     parts: &mut Vec<L::Part>,
     procs: u32,
 ) -> Result<Vec<L::Part>, Memory>
-    requires known { (L.tag_of layout.now ≤ 2) × (0 < procs) × (procs ≤ PROCESSORS) }
+    requires known { IsKnownTag (L.shapes layout.now) (L.tag_of layout.now) × (0 < procs) × (procs ≤ PROCESSORS) }
     requires whole { L.whole layout.now procs parts.old.items }
     ensures row { IfOk result (λ moved. IsWholeRow (L.whole layout.now) moved.items) }
     ensures same { IfOk result (λ moved.

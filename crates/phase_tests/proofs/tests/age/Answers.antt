@@ -1,7 +1,7 @@
 use Rattle.std.proofs.Common.{◌≡◌, [], ◌∷◌, get_or, set, sym, subst, ◌∙◌}
 use Rattle.k42_limits.specs.declared.TheConstants.{LAST_INCARNATION}
 use Rattle.phase_core.specs.Plain.{Phases, Object}
-use Rattle.phase_core.specs.State.{new_phases}
+use Rattle.phase_core.specs.State.{new_phases, of_two}
 use Rattle.phase_core.specs.Sound.{IsSound}
 use Rattle.phase_core.proofs.AtTheLast.{IsSound-aged}
 use Rattle.phase_tests.proofs.tests.age.Goals as goal
@@ -16,7 +16,7 @@ aged s o = record s {
 }
 
 IsSound-new :
-    (s : Phases) (o none : Object) → s ≡ new_phases 1 (0 ∷ []) (0 ∷ []) → o ≡ get_or s.objects 0 none
+    (s : Phases) (o none : Object) → s ≡ new_phases 1 (of_two 0 ∷ []) (0 ∷ []) → o ≡ get_or s.objects 0 none
     → IsSound (aged s o)
 IsSound-new s o none new first =
     subst (λ o. IsSound (aged s o)) (sym first)

@@ -48,7 +48,7 @@ returns g c =
     let closed = c.close.ensures in
     subst
     (λ (s : SysSeen _). AreLastLists
-    (layouts_on g.L.Kind.object g.L.Layout.tag_of g.L.Layout.ways g.L.Layout.whole g.L.Layout.serves g.L.Layout.admitted g.L.Layout.act_of s.procs s.callers)
+    (layouts_on g.L.Kind.object g.L.Layout.shapes g.L.Layout.tag_of g.L.Layout.ways g.L.Layout.whole g.L.Layout.serves g.L.Layout.admitted g.L.Layout.act_of s.procs s.callers)
     s.layouts (length s.callers) (lists_in c.args.passes.items))
     c.self.view_is
     (are_last _ _ _ c.args.passes.items (subst (λ (s : SysSeen _). AreAtRest s c.args.passes.items) (sym c.self.view_is) c.requires) c.gather.new.seat.id closed.0

@@ -1,4 +1,5 @@
-use Rattle.std.proofs.Common.{◌≡◌, ◌<◌, ◌≤◌, ℕ, List, length, arith, sym, refl, ap, ◌∙◌, subst}
+use Rattle.std.proofs.Common.{◌≡◌, ◌<◌, ◌≤◌, ℕ, List, length, arith, sym, refl, ap, ◌∙◌, subst, map}
+use Rattle.std.proofs.lemmas.List.{length-map}
 use Rattle.k42_limits.specs.declared.TheConstants.{PROCESSORS}
 use Rattle.k42_places.specs.Places.{EachPlace}
 use Rattle.k42_stamp.specs.Laws.{AreLaws}
@@ -12,7 +13,7 @@ use Rattle.k42_rule.proofs.sys.Sys.start.Goals as goal
 use Rattle.k42_rule.proofs.sys.Sys.start.Given as given
 
 laws_at : (g : given.Over) (procs : ℕ) (callers : List ℕ) → 0 < procs → EachPlace (λ c p. p < procs) callers
-    → AreLaws (layouts_on g.L.Kind.object g.L.Layout.tag_of g.L.Layout.ways g.L.Layout.whole g.L.Layout.serves g.L.Layout.admitted g.L.Layout.act_of procs callers)
+    → AreLaws (layouts_on g.L.Kind.object g.L.Layout.shapes g.L.Layout.tag_of g.L.Layout.ways g.L.Layout.whole g.L.Layout.serves g.L.Layout.admitted g.L.Layout.act_of procs callers)
 laws_at g procs callers some placed =
     let met = g.met.L.Layout g.world.𝓛 g.world.𝓜 g.world.𝓡 ((λ s x. x), (λ x. x), (λ x. x), λ x. x) in
     record {
@@ -27,15 +28,18 @@ laws_at g procs callers some placed =
       admits = λ layout before state known live same served. met.admits layout before state known live same served;
       swaps = λ layout state known. met.swaps layout state known;
       asks = λ layout. met.asks layout;
+      alike = λ layout other same. met.alike layout other same;
+      few = λ layout. met.few layout;
     }
 
 pub new-requires : goal.new-requires
 new-requires g c =
     let procs : ℕ = c.args.procs in let callers : List ℕ = c.args.callers.items in let layouts = c.args.layouts.items in
-    let F = layouts_on g.L.Kind.object g.L.Layout.tag_of g.L.Layout.ways g.L.Layout.whole g.L.Layout.serves g.L.Layout.admitted g.L.Layout.act_of procs callers in
+    let F = layouts_on g.L.Kind.object g.L.Layout.shapes g.L.Layout.tag_of g.L.Layout.ways g.L.Layout.whole g.L.Layout.serves g.L.Layout.admitted g.L.Layout.act_of procs callers in
+    let laws = laws_at g procs callers c.requires.start.turns.limits.some_procs c.requires.start.turns.placed in
     let told : AreFirstWords g.L.Layout.tag_of layouts (length layouts) c.in_ok-words.words.items =
     rw c.as_slice.ensures.value at c.in_ok-words.ensures in
-    (opens F (laws_at g procs callers c.requires.start.turns.limits.some_procs c.requires.start.turns.placed) layouts callers (plan_of F layouts callers c.requires.start (λ d. refl))
+    (opens F laws layouts callers (plan_of F laws layouts callers c.requires.start (λ d. refl))
     c.as_slice-2.result.now c.in_ok-slots.slots.items
     (subst (λ (w : List ℕ). AreFirstWords g.L.Layout.tag_of layouts (length layouts) w) (sym c.as_slice-2.ensures.value) told)
     c.in_ok-slots.ensures.0 c.in_ok-slots.ensures.1).0
@@ -43,10 +47,11 @@ new-requires g c =
 pub returns-clause-opened : goal.returns-clause-opened
 returns-clause-opened g c =
     let procs : ℕ = c.args.procs in let callers : List ℕ = c.args.callers.items in let layouts = c.args.layouts.items in
-    let F = layouts_on g.L.Kind.object g.L.Layout.tag_of g.L.Layout.ways g.L.Layout.whole g.L.Layout.serves g.L.Layout.admitted g.L.Layout.act_of procs callers in
+    let F = layouts_on g.L.Kind.object g.L.Layout.shapes g.L.Layout.tag_of g.L.Layout.ways g.L.Layout.whole g.L.Layout.serves g.L.Layout.admitted g.L.Layout.act_of procs callers in
+    let laws = laws_at g procs callers c.requires.start.turns.limits.some_procs c.requires.start.turns.placed in
     let told : AreFirstWords g.L.Layout.tag_of layouts (length layouts) c.in_ok-words.words.items =
     rw c.as_slice.ensures.value at c.in_ok-words.ensures in
-    is_opened F (laws_at g procs callers c.requires.start.turns.limits.some_procs c.requires.start.turns.placed) layouts callers (plan_of F layouts callers c.requires.start (λ d. refl))
+    is_opened F laws layouts callers (plan_of F laws layouts callers c.requires.start (λ d. refl))
     c.as_slice-2.result.now c.in_ok-slots.slots.items
     (subst (λ (w : List ℕ). AreFirstWords g.L.Layout.tag_of layouts (length layouts) w) (sym c.as_slice-2.ensures.value) told)
     c.in_ok-slots.ensures.0 c.in_ok-slots.ensures.1
@@ -65,7 +70,7 @@ invariant_of-sys g c =
       ap (λ k. k.procs) (sym made.5),
       c.requires.start.few_objects,
       subst
-          (λ k. AreLaws (layouts_on g.L.Kind.object g.L.Layout.tag_of g.L.Layout.ways g.L.Layout.whole g.L.Layout.serves g.L.Layout.admitted g.L.Layout.act_of k.procs k.callers.items))
+          (λ k. AreLaws (layouts_on g.L.Kind.object g.L.Layout.shapes g.L.Layout.tag_of g.L.Layout.ways g.L.Layout.whole g.L.Layout.serves g.L.Layout.admitted g.L.Layout.act_of k.procs k.callers.items))
           (sym made.5) (laws_at g procs callers c.requires.start.turns.limits.some_procs c.requires.start.turns.placed),
       subst (λ k. 0 < length k.callers.items) (sym made.5) c.requires.start.turns.limits.some_callers,
       subst (λ k. k.procs ≤ PROCESSORS) (sym made.5) c.requires.start.turns.limits.few_procs,
@@ -78,9 +83,10 @@ returns-clause-started g c =
     let procs : ℕ = c.args.procs in let objects : ℕ = c.len-objects.result in
     let many : objects ≡ length c.args.layouts.items = c.len-objects.ensures ∙ c.args.layouts.ok.0 in
     let queue = c.in-Ok.line in
-    let dealt : AreDealt table queue c.args.keep procs (length c.args.layouts.items) c.args.callers.items passes =
-    subst (λ (z : ℕ × List ℕ). AreDealt table queue c.args.keep procs z.0 z.1 passes) (λ i. (many i, c.as_slice-3.ensures.value i)) c.in_ok-passes.ensures in
-    is_started c.args.layouts.items procs c.args.callers.items _ passes (ap (λ k. k.procs) key) (ap (λ k. k.layouts.items) key) (ap (λ k. k.callers.items) key)
+    let dealt : AreDealt table queue c.args.keep procs (map g.L.Layout.shapes c.in-Ok-new.board.shared.key.layouts.items) c.args.callers.items passes =
+    subst (λ (homes : List ℕ). AreDealt table queue c.args.keep procs (map g.L.Layout.shapes c.in-Ok-new.board.shared.key.layouts.items) homes passes) c.as_slice-3.ensures.value c.in_ok-passes.ensures in
+    is_started c.args.layouts.items procs c.args.callers.items _ passes (ap (λ k. k.procs) key) (ap (λ k. k.layouts.items) key)
+    (length-map c.in-Ok-new.board.shared.key.layouts.items g.L.Layout.shapes ∙ ap (λ k. length k.layouts.items) key) (ap (λ k. k.callers.items) key)
     c.requires.start.turns.placed dealt
 
 pub with_rule-requires : goal.with_rule-requires

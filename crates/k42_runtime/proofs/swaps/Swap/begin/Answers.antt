@@ -40,7 +40,7 @@ returns-in-Busy c =
     let rests : IsAtRest new.view = search rules in
     let told =
     refused_by _ _ s.object old c.reserve.new.self c.begin.new.pass c.reserve.ensures.same c.begin.ensures.same c.begin.ensures.knows c.begin.ensures.begun new s.to number
-    c.draw_alone.ensures.drawer (later_stamp c.begin.new.pass.view [] c.draw_alone.result c.draw_alone.ensures.stamp c.draw_alone.ensures.later) drawn c.begin.result c.in-Busy.phase c.begin.ensures.answer c.in-Busy.is in
+    c.draw_alone.ensures.drawer (later_stamp c.begin.new.pass.view [] c.draw_alone.result c.draw_alone.ensures.stamp c.draw_alone.ensures.later) drawn c.begin.result c.in-Busy.phase c.layouts_are_told.ensures.live c.begin.ensures.answer c.in-Busy.is in
     subst (λ s. HasStepped c.args.system.now c.over.result s c.over.new.self old new) is
     (subst (λ t. HasStepped c.args.system.now c.over.result s t old new) (sym (c.over.ensures.over ∙ ap (λ (x : SwapSeen). record x { stage = Over }) (sym is)))
     (subst (λ answer. HasStepped c.args.system.now answer s (record s { stage = Over }) old new) (sym c.over.ensures.ended)

@@ -2,7 +2,7 @@ use Rattle.std.proofs.Common.{rules, ◌≡◌, ℕ, List, sym, subst}
 use Rattle.k42_board.specs.Starting.{IsStart, IsStarted}
 use Rattle.k42_rule.specs.Opened.{IsOpened}
 use Rattle.k42_runtime.specs.Plans.{PlanSeen, IsSoundPlan}
-use Rattle.k42_runtime.specs.Systems.{any_layouts, layouts_of, tag_in, SystemLayout}
+use Rattle.k42_runtime.specs.Systems.{any_layouts, layouts_of, shapes_in, tag_in, SystemLayout}
 use Rattle.k42_runtime.proofs.Started.{is_start, started}
 use Rattle.k42_runtime.proofs.system.System.start.Goals as goal
 
@@ -11,7 +11,7 @@ start-requires-clause-start c κs =
     let plan : PlanSeen = record { procs = c.plan.inside.procs; objects = c.plan.inside.objects.items; callers = c.plan.inside.callers.items; keep = c.plan.inside.keep } in
     let layouts : c.in_ok-layouts.layouts.items ≡ layouts_of plan = search rules in
     let callers : c.in_ok-callers.callers.items ≡ plan.callers = search rules in
-    subst (λ (z : List SystemLayout × List ℕ). IsStart tag_in z.0 plan.procs z.1) (λ k. (sym layouts k, sym callers k))
+    subst (λ (z : List SystemLayout × List ℕ). IsStart shapes_in tag_in z.0 plan.procs z.1) (λ k. (sym layouts k, sym callers k))
     (is_start plan c.plan.invariant)
 
 pub returns : goal.returns

@@ -10,5 +10,5 @@ returns c =
     let to = c.args.to.now in
     let stands = any_stands from.kind from.tag 8 c.args.parts.now.items (omega (arith, c.requires.known.0)) (omega arith) c.requires.row in
     whole_imported to.kind to.tag 8 c.admit.result c.in_ok-next.next.items c.requires.known.1 (omega arith)
-    (rw (c.admit.ensures, c.in_ok-state.ensures.state) (any_admits to.kind from.kind to.tag from.tag _ c.requires.known.0 (ap plain_object c.requires.same) stands.served))
+    (rw (c.admit.ensures, c.in_ok-state.ensures.state) (any_admits to.kind from.kind to.tag from.tag _ (omega (arith, c.requires.known.0)) (ap plain_object c.requires.same) stands.served))
     c.in_ok-next.ensures

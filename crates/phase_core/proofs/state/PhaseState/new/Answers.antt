@@ -5,4 +5,4 @@ use Rattle.phase_core.proofs.state.PhaseState.new.Goals as goal
 
 pub returns-clause-sound : goal.returns-clause-sound
 returns-clause-sound c =
-    IsSound-is_new _ c.args.procs c.args.layouts.items c.args.callers.items c.requires (grind (arith, common_steps))
+    IsSound-is_new _ c.args.procs c.args.plans.items c.args.callers.items c.requires (grind (arith, common_steps))

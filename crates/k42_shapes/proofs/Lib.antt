@@ -1,0 +1,2 @@
+pub mod ShapeLaws
+mod ExampleShapes
