@@ -18,7 +18,7 @@ use Rattle.k42_board.proofs.lifting.tell_lifted.Goals as goal
 pub split_seat-own-requires : goal.split_seat-own-requires
 split_seat-own-requires g c =
     let key = c.args.board.now.shared.key in let me = c.args.seat.now.me in let t = c.requires.holds in
-    let F = layouts_on g.L.Kind.object g.L.Layout.tag_of g.L.Layout.ways g.L.Layout.whole g.L.Layout.serves g.L.Layout.admitted g.L.Layout.act_of key.procs key.callers.items in (
+    let F = layouts_on g.L.Kind.object g.L.Layout.shapes g.L.Layout.tag_of g.L.Layout.ways g.L.Layout.whole g.L.Layout.serves g.L.Layout.admitted g.L.Layout.act_of key.procs key.callers.items in (
       t.ours,
       (let wide = t.many in omega (arith, wide)),
       receipt_splits F key.layouts.items c.args.seat.now.id (pass_in me.0) _ me.0 (ap (λ (m : Seated _ _ _). m.0) t.alone),
