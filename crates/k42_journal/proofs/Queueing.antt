@@ -1,11 +1,10 @@
 -- The queue of first entries: its end is the next one, and what is taken and entered keeps it.
-use Rattle.std.proofs.Common.{◌≡◌, ◌≢◌, ℕ, zero, suc, ◌<◌, false, List, [], ◌∷◌, ◌++◌, length, take, drop, get_or, refl, sym, ap, ◌∙◌, subst, inl, inr, ◌⊎◌, arith}
+use Rattle.std.proofs.Common.{◌≡◌, ◌≢◌, ℕ, zero, suc, ◌<◌, false, List, [], ◌∷◌, ◌++◌, ◌-◌, ◌≤◌, length, take, drop, get_or, refl, sym, ap, ◌∙◌, subst, inl, inr, ◌⊎◌, arith}
 use Rattle.std.specs.Prelude.{Option, Some, None, IfSome, ◌==◌, slice_get, slice_set}
-use Rattle.std.specs.List.{AllByRecursion, AllWithin}
-use Rattle.std.specs.Option.{option_map}
-use Rattle.std.specs.List.Sorted.{IsPartitionedBy}
+use Rattle.std.specs.List.{AllByRecursion}
+use native.Mathlib.Numerals.{unary_clauses}
 use Rattle.std.proofs.lemmas.List.{take-append-drop}
-use Rattle.std.proofs.lemmas.Bool.{ne_eqb}
+use Rattle.std.proofs.lemmas.Bool.{ne_eqb, false_from_ne_true, true≢false}
 use Rattle.std.proofs.lemmas.Bool.Decides.{eqb_tells}
 use Rattle.std.proofs.lemmas.Option.{same_Some, slice_get_within, get_or_from_slice_get}
 use Rattle.k42_kinds.specs.declared.entry.Act.TheVariants.{Swap}
@@ -69,24 +68,19 @@ all_get P [] i d all within = absurd (omega arith)
 all_get P (x ∷ xs) zero d all within = all.0
 all_get P (x ∷ xs) (suc i) d all within = all_get P xs i d all.1 (omega arith)
 
-pub parted : (standing : Standing) (queue : List Standing) → Ordered IsBehind queue → IsPartitionedBy (λ one. stands_before standing one) queue
-parted standing [] up i j d upto within is = absurd (omega arith)
-parted standing (x ∷ xs) up zero zero d upto within is = is
-parted standing (x ∷ xs) up zero (suc j) d upto within is = behind-trans x (get_or xs j d) standing (all_get (IsBehind x) xs j d up.0 (omega arith)) is
-parted standing (x ∷ xs) up (suc i) zero d upto within is = absurd (omega arith)
-parted standing (x ∷ xs) up (suc i) (suc j) d upto within is = parted standing xs up.1 i j d (omega arith) (omega arith) is
-
-pub all_front_of : (P : Standing → Type 0) (xs : List Standing) (i : ℕ) → AllWithin P xs 0 i → AllByRecursion P (take i xs)
-all_front_of P [] zero all = tt
-all_front_of P [] (suc i) all = tt
-all_front_of P (x ∷ xs) zero all = tt
-all_front_of P (x ∷ xs) (suc i) all = (all 0 x (omega arith) (omega arith), all_front_of P xs i (λ k d low high. all (suc k) d (omega arith) (omega arith)))
-
-pub all_back_of : (P : Standing → Type 0) (xs : List Standing) (i : ℕ) → AllWithin P xs i (length xs) → AllByRecursion P (drop i xs)
-all_back_of P [] zero all = tt
-all_back_of P [] (suc i) all = tt
-all_back_of P (x ∷ xs) zero all = (all 0 x (omega arith) (omega arith), all_back_of P xs zero (λ k d low high. all (suc k) d (omega arith) (omega arith)))
-all_back_of P (x ∷ xs) (suc i) all = all_back_of P xs i (λ k d low high. all (suc k) d (omega arith) (omega arith))
+-- where one does not stand before it, none behind that one does
+pub none_before : (standing : Standing) (queue : List Standing) (place : ℕ) (d : Standing) → Ordered IsBehind queue → place ≤ length queue
+    → (0 < place → stands_before (get_or queue (place - 1) d) standing ≡ false) → AllByRecursion (λ one. stands_before one standing ≡ false) (take place queue)
+none_before standing [] zero d up within late = tt
+none_before standing [] (suc place) d up within late = tt
+none_before standing (x ∷ queue) zero d up within late = tt
+none_before standing (x ∷ queue) (suc zero) d up within late = (late (omega arith), tt)
+none_before standing (x ∷ queue) (suc (suc place)) d up within late =
+    let last = get_or queue place d in
+    let not : stands_before last standing ≡ false = simp unary_clauses at late (omega arith) in (
+      false_from_ne_true (stands_before x standing) (λ is. absurd (true≢false (sym (behind-trans standing x last is (all_get (IsBehind x) queue place d up.0 (omega arith))) ∙ not))),
+      none_before standing queue (suc place) d up.1 (omega arith) (λ some. simp unary_clauses not),
+    )
 
 -- which are there once one has entered
 
@@ -155,8 +149,7 @@ pub first_enters : {O R : Type 0} (lists : List (List (Entry O R))) (but : ℕ) 
     → HasEntered (standing_of first) old new → IsQueueOf lists new
 first_enters lists but old new first more is there own entered = record {
   ordered = subst (Ordered IsBehind) (sym entered.entered) (Ordered-inserted IsBehind behind-trans standing (take place old) (drop place old)
-      (subst (Ordered IsBehind) (sym (take-append-drop place old)) is.ordered) entered.is.behind
-      (all_in (IsBehind standing) (drop place old) later));
+      (subst (Ordered IsBehind) (sym (take-append-drop place old)) is.ordered) (all_in (λ one. IsBehind one standing) (take place old) earlier) entered.is.others);
   all = λ at entry others has. elim (same_or at but) [
     | inl same ↦
         let one : entry ≡ first = same_first entry first others more (same_there lists at but (entry ∷ others) (first ∷ more) has there same) in
@@ -177,20 +170,15 @@ first_enters lists but old new first more is there own entered = record {
   here : IsFirstOf lists standing
   here = record { entry = first; others = more; there = ap (slice_get lists) own ∙ there; is = refl }
 
-  later : (one : Standing) → In one (drop place old) → IsBehind standing one
-  later one has = other_side standing one (λ same. (is.only one (of_split one place old (inr has))).0 (sym same ∙ own))
-      (all_at (λ x. stands_before standing x ≡ false) (drop place old) one entered.is.others has)
+  earlier : (one : Standing) → In one (take place old) → IsBehind one standing
+  earlier one has = other_side one standing (λ same. (is.only one (of_split one place old (inl has))).0 (same ∙ own))
+      (all_at (λ x. stands_before x standing ≡ false) (take place old) one entered.is.behind has)
 
 -- or one of these
 pub first_entered : {O R : Type 0} (lists : List (List (Entry O R))) (but : ℕ) (old new : List Standing) (list : List (Entry O R)) → IsQueueBut lists but old
     → slice_get lists but ≡ Some list → IsListOf but list → HasEnteredFirst list old new → IsQueueOf lists new
 first_entered lists but old new [] is there own same = subst (IsQueueOf lists) (sym same) (none_enters lists but old is there)
 first_entered lists but old new (entry ∷ others) is there own entered = first_enters lists but old new entry others is there own.own.0 entered
-
-pub entered_by : {O R : Type 0} (list : List (Entry O R)) (old new : List Standing) (standing : Standing)
-    → option_map standing_of (slice_get list 0) ≡ Some standing → HasEntered standing old new → HasEnteredFirst list old new
-entered_by [] old new standing stands entered = absurd (cc)
-entered_by (entry ∷ others) old new standing stands entered = subst (λ s. HasEntered s old new) (sym (same_Some (standing_of entry) standing stands)) entered
 
 -- the end of the queue
 

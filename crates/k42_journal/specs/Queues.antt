@@ -1,5 +1,5 @@
 -- The first entries of lists, as a queue from which the next one is taken at its end.
-use Rattle.std.specs.Prelude.{◌≡◌, ℕ, ◌≤◌, true, false, List, [], ◌∷◌, ◌++◌, length, take, drop, Some, slice_get, slice_set}
+use Rattle.std.specs.Prelude.{◌≡◌, ℕ, ◌-◌, ◌≤◌, true, false, List, [], ◌∷◌, ◌++◌, length, take, drop, Some, slice_get, slice_set}
 use Rattle.std.specs.List.{AllByRecursion}
 use Rattle.k42_kinds.specs.declared.entry.Entry.{Entry}
 use Rattle.k42_log.specs.declared.unread.Standing.{Standing}
@@ -27,11 +27,15 @@ pub record IsQueueOf {O R : Type 0} (lists : List (List (Entry O R))) (queue : L
       → In (standing_of entry) queue
   pub only : (standing : Standing) → In standing queue → IsFirstOf lists standing
 
--- so many of the queue stand behind it, and no others
+-- all of the queue but the last
+abbrev pub front_of : List Standing → List Standing
+front_of queue = take (length queue - 1) queue
+
+-- so many of the queue do not stand before it, and the others do
 pub record IsPlaceIn (queue : List Standing) (standing : Standing) (place : ℕ) : Type 0 where
   pub within : place ≤ length queue
-  pub behind : AllByRecursion (λ one. IsBehind one standing) (take place queue)
-  pub others : AllByRecursion (λ one. stands_before standing one ≡ false) (drop place queue)
+  pub behind : AllByRecursion (λ one. stands_before one standing ≡ false) (take place queue)
+  pub others : AllByRecursion (IsBehind standing) (drop place queue)
 
 -- it has come between those behind it and the others
 pub record HasEntered (standing : Standing) (old new : List Standing) : Type 0 where

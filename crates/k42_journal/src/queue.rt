@@ -1,10 +1,10 @@
 //! Which log has the next entry.
-ghost use Rattle.std.specs.Prelude.{◌≡◌, ◌<◌, ◌≤◌, ◌+◌, None, vec_len, vec_capacity, IfSome};
+ghost use Rattle.std.specs.Prelude.{◌≡◌, ◌<◌, ◌≤◌, ◌+◌, None, length, vec_len, vec_capacity, IfSome};
 ghost use Rattle.k42_stamp.specs.Orders.{Ordered};
 ghost use Rattle.k42_stamp.specs.Lists.{AreLists};
 ghost use Rattle.k42_stamp.specs.Merging.{AreEmpty};
 ghost use Rattle.k42_journal.specs.Keys.{stands_before};
-ghost use Rattle.k42_journal.specs.Queues.{HasEntered, HasEnteredFirst, IsBehind, IsPlaceIn, IsQueueOf, IsTaken};
+ghost use Rattle.k42_journal.specs.Queues.{HasEntered, HasEnteredFirst, IsBehind, IsQueueOf, IsTaken, front_of};
 
 use k42_kinds::{Entry, Packed, PackedReply};
 use k42_log::{Standing, Unread};
@@ -25,31 +25,18 @@ fn stands_before(one: &Standing, other: &Standing) -> bool
     one.caller < other.caller
 }
 
-/// How many of the queue stand behind it.
-fn place_in(queue: &[Standing], standing: Standing) -> usize
-    requires { Ordered IsBehind queue.now }
-    ensures { IsPlaceIn queue.now standing result }
+/// Puts it in the last one's stead, and then before the others that stand before it.
+fn enter_for_last(queue: &mut [Standing], standing: Standing)
+    requires some { 0 < length queue.old }
+    requires ordered { Ordered IsBehind (front_of queue.old) }
+    ensures { HasEntered standing (front_of queue.old) queue.new }
 {
-    queue.partition_point(
-        |one: &Standing| -> bool
-            ensures { result ≡ stands_before standing one.now }
-        { stands_before(&standing, one) },
-    )
-}
-
-/// Puts it before all of the queue that stand behind it.
-fn enter(queue: &mut Vec<Standing>, standing: Standing)
-    requires ordered { Ordered IsBehind queue.old.items }
-    requires room { vec_len queue.old < vec_capacity queue.old }
-    ensures entered { HasEntered standing queue.old.items queue.new.items }
-    ensures len { vec_len queue.new ≡ vec_len queue.old + 1 }
-    ensures capacity { vec_capacity queue.new ≡ vec_capacity queue.old }
-{
-    let place = place_in(queue.as_slice(), standing);
-    match queue.insert(place, standing) {
-        Ok(()) => {}
-        Err(_) => unreachable!(),
+    let mut place = queue.len() - 1;
+    while place > 0 && stands_before(&queue[place - 1], &standing) {
+        queue[place] = queue[place - 1];
+        place -= 1;
     }
+    queue[place] = standing;
 }
 
 /// Puts the first entry that was not read yet into the queue, if there is one.
@@ -64,7 +51,22 @@ pub(crate) fn enter_first<O: Packed, R: PackedReply>(
     ensures capacity { vec_capacity queue.new ≡ vec_capacity queue.old }
 {
     if let Some(standing) = unread.standing() {
-        enter(queue, standing);
+        queue.push_reserved(standing);
+        enter_for_last(queue.as_mut_slice(), standing);
+    }
+}
+
+/// Puts the first entry that was not read yet in the last one's stead, or nothing, if there is none.
+fn follow_last<O: Packed, R: PackedReply>(queue: &mut Vec<Standing>, unread: &Unread<'_, O, R>)
+    requires some { 0 < length queue.old.items }
+    requires ordered { Ordered IsBehind (front_of queue.old.items) }
+    ensures { HasEnteredFirst unread.now (front_of queue.old.items) queue.new.items }
+{
+    match unread.standing() {
+        None => {
+            let _read = queue.pop();
+        }
+        Some(standing) => enter_for_last(queue.as_mut_slice(), standing),
     }
 }
 
@@ -79,9 +81,9 @@ pub(crate) fn take_next<O: Packed, R: PackedReply>(
     ensures taken { IfSome result (IsTaken unread.old.items unread.new.items) }
     ensures queue { IsQueueOf unread.new.items queue.new.items }
 {
-    let standing = queue.pop()?;
+    let standing = queue.last()?;
     let rest = &mut unread[standing.caller as usize];
     let entry = rest.next();
-    enter_first(queue, rest);
+    follow_last(queue, rest);
     entry
 }
