@@ -10,5 +10,4 @@ pub fn shapes_share_cells_out()
     ensures together { (shape : Shape) (one other : ℕ)
         → (cell_called shape one ≡ cell_called shape other) ↔ AreTogether shape one other }
     ensures called { (shape : Shape) (procs cell : ℕ) → 0 < procs → cell < cells_of shape procs → IsCalled shape procs cell }
-{
-}
+{}

@@ -182,9 +182,17 @@ fn amounts_after(alloc: Global, groups: Groups) -> Result<Vec<u64>, Memory> {
 #[test]
 fn neighbours_add_to_one_amount(rt: HostRuntime) -> Result<(), Fail> {
     let twos: [u64; 3] = [3, 4, 8];
-    assert!(rt; amounts_after(rt.alloc(), Groups::Two)?.iter().eq(twos.iter()));
+    assert!(rt;
+        amounts_after(rt.alloc(), Groups::Two)?
+            .iter()
+            .eq(twos.iter())
+    );
     let fours: [u64; 2] = [7, 8];
-    assert!(rt; amounts_after(rt.alloc(), Groups::Four)?.iter().eq(fours.iter()));
+    assert!(rt;
+        amounts_after(rt.alloc(), Groups::Four)?
+            .iter()
+            .eq(fours.iter())
+    );
     Ok(())
 }
 
