@@ -4,7 +4,9 @@ use Rattle.std.specs.Prelude.{is_some, IsSome, OnOk, OnErr}
 use Rattle.std.specs.Option.{unwrap_or, option_to_list}
 use Rattle.std.proofs.lemmas.List.{length-append}
 use Rattle.k42_board.specs.declared.cell.Content.{Content}
-use Rattle.k42_mediator.specs.Parts.{filled}
+use Rattle.k42_kinds.specs.Rows.{Ways}
+use Rattle.k42_mediator.specs.Parts.{filled, parts_from}
+use Rattle.k42_places.specs.Places.{EachPlace}
 use Rattle.k42_kinds.specs.declared.operation.Op.{Op}
 use Rattle.k42_kinds.specs.declared.operation.Reply.{Reply}
 
@@ -85,3 +87,26 @@ on_ok_3 (Err e) f a b c = tt
 pub on_err_3 : {X E A B C D : Type 0} (r : Result X E) → (A → B → C → D) → OnErr r A → OnErr r B → OnErr r C → OnErr r D
 on_err_3 (Ok x) f a b c = tt
 on_err_3 (Err e) f a b c = f a b c
+
+pub on_ok_1 : {X E A B : Type 0} (r : Result X E) → (A → B) → OnOk r A → OnOk r B
+on_ok_1 (Ok x) f a = f a
+on_ok_1 (Err e) f a = tt
+
+-- cells behind those that a row fills have no part, and are as they were
+
+none_filled : {P : Type 0} (cells : List (Content P Op Reply)) → EachPlace (λ place (content : Content P Op Reply). content.part ≡ None) cells → filled [] cells ≡ cells
+none_filled [] none = refl
+none_filled (cell ∷ cells) none =
+    λ j. record cell { part = sym (none 0 cell refl) j } ∷ none_filled cells (λ k content at. none (suc k) content at) j
+
+pub filled_front : {P : Type 0} (parts : List P) (own rest : List (Content P Op Reply)) → length parts ≡ length own
+    → EachPlace (λ place (content : Content P Op Reply). content.part ≡ None) rest → filled parts own ++ rest ≡ filled parts (own ++ rest)
+filled_front [] [] rest long none = sym (none_filled rest none)
+filled_front [] (cell ∷ own) rest long none = absurd (omega (arith, long))
+filled_front (part ∷ parts) [] rest long none = absurd (omega (arith, long))
+filled_front (part ∷ parts) (cell ∷ own) rest long none =
+    ap (λ cells. record cell { part = Some part } ∷ cells) (filled_front parts own rest (omega (arith, long)) none)
+
+pub length-parts_from : {S P : Type 0} (ways : Ways S P Op Reply) (procs place : ℕ) (cells : List (Content P Op Reply)) → length (parts_from ways procs place cells) ≡ length cells
+length-parts_from ways procs place [] = refl
+length-parts_from ways procs place (cell ∷ cells) = ap suc (length-parts_from ways procs (place + 1) cells)
