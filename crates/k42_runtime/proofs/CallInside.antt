@@ -1,8 +1,9 @@
 -- A call that seeks its row: whether it is there, or what has held it up.
-use Rattle.std.proofs.Common.{◌≡◌, ℕ, ◌+◌, ◌<◌, Bool, true, false, cond, eqb, List, [], ◌∷◌, ◌++◌, Some, None, Result, Ok, Err, refl, sym, ap, ◌∙◌, subst, arith}
+use Rattle.std.proofs.Common.{◌≡◌, ℕ, ◌+◌, ◌<◌, Bool, true, false, cond, eqb, List, [], ◌∷◌, ◌++◌, Some, None, Result, Ok, Err, refl, sym, ap, ◌∙◌, subst}
 use Rattle.std.specs.Prelude.{is_some, OnErr}
-use Rattle.k42_limits.specs.declared.TheConstants.{PROCESSORS}
-use Rattle.phase_core.specs.Effects.{knocked, root_of}
+use Rattle.k42_shapes.proofs.ShapeLaws.{cell_few}
+use Rattle.k42_shapes.specs.Shapes.{shape_at}
+use Rattle.phase_core.specs.Effects.{knocked}
 use Rattle.phase_core.specs.Stages.{is_out, object_of, row_of}
 use Rattle.phase_core.specs.State.{empty_entry}
 use Rattle.k42_stamp.specs.Layouts.{Layouts}
@@ -10,6 +11,7 @@ use Rattle.k42_board.specs.Log.{Extends, EndsWith, step_at, steps_through, took}
 use Rattle.k42_board.specs.Phases.{is_served}
 use Rattle.k42_board.specs.Tabling.{direct_view, ended_view, layout_learned, rooted_view}
 use Rattle.k42_board.specs.Values.{has_bit, incarnation_in, layout_in, local_value}
+use Rattle.k42_board.specs.Views.{shapes_at}
 use Rattle.k42_board.specs.Words.{local_word, lock_word, object_word}
 use Rattle.k42_board.specs.declared.view.PassView.{PassView}
 use Rattle.k42_board.specs.declared.view.StepName.TheVariants as steps
@@ -37,12 +39,6 @@ blocked_bit i false e = absurd (cc)
 open_bit : (i j : ℕ) (b : Bool) → Admitted j ≡ cond b Blocked (Admitted i) → b ≡ false
 open_bit i j true e = absurd (cc)
 open_bit i j false e = refl
-
-root_there : (layout p : ℕ) → p < 8 → root_of layout p < PROCESSORS
-root_there layout p there = go (eqb layout 1) where
-  go : (b : Bool) → cond b p 0 < 8
-  go true = there
-  go false = omega arith
 
 module _ {S L P : Type 0} (F : Layouts S L P Op Reply) (declared : List L) (id o : ℕ) (old new : PassView P Op Reply) where
   -- who was blocked is inside no call
@@ -97,7 +93,7 @@ module _ {S L P : Type 0} (F : Layouts S L P Op Reply) (declared : List L) (id o
     word : ℕ
     word = local_word old.turn.proc o
 
-    go : (b : Bool) → Installed place ≡ cond b (Installed (place_named (rooted_view is.root old))) (Elsewhere is.found)
+    go : (b : Bool) → Installed place ≡ cond b (Installed (place_named o (rooted_view is.root old))) (Elsewhere is.found)
         → new ≡ took steps.Install word is.found (cond b (direct_view o x) (ended_view x)) → IsServing o new × Extends old.log new.log
     go true e knows = (
       record { served = there.0; of = there.1; known = ap (λ (v : PassView P Op Reply). is_some v.layout) knows },
@@ -114,7 +110,7 @@ module _ {S L P : Type 0} (F : Layouts S L P Op Reply) (declared : List L) (id o
     at : ℕ
     at = local_word old.turn.proc o
 
-    go : (b : Bool) → Elsewhere word ≡ cond b (Installed (place_named (rooted_view is.root old))) (Elsewhere is.found)
+    go : (b : Bool) → Elsewhere word ≡ cond b (Installed (place_named o (rooted_view is.root old))) (Elsewhere is.found)
         → new ≡ took steps.Install at is.found (cond b (direct_view o x) (ended_view x)) → EndsWith (step_at steps.Install at word) old.log new.log
     go true e knows = absurd (cc)
     go false e knows =
@@ -151,8 +147,8 @@ found_held o old new answer holder there is has' =
       ap (λ (v : PassView _ Op Reply). is_out v.visitor.place) has.knows,
       record {
         incarnation = row_of old.visitor.place;
-        place = place_named rooted;
-        there = root_there (layout_learned rooted) old.turn.proc there;
+        place = place_named o rooted;
+        there = cell_few (shape_at (shapes_at rooted o) (layout_learned rooted)) old.turn.proc 8 there;
         another = has.another;
         caller = has.caller;
         met =

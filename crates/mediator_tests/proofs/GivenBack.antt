@@ -16,6 +16,7 @@ use Rattle.table_crews.specs.Ready.{HoldsNoCell}
 pub record HasLeft {P O R : Type 0} (v w : PassView P O R) : Type 0 where
   pub turn : w.turn ≡ v.turn
   pub visitor : w.visitor ≡ v.visitor
+  pub shapes : w.shapes ≡ v.shapes
   pub held : w.taker.held ≡ []
   pub notes : w.notes ≡ []
 
@@ -27,6 +28,7 @@ free_left sys old new ours table queue keep left = record {
     proc = subst (λ (turn : Caller). turn.proc < sys.procs) (sym left.turn) ours.proc;
     waits = ap (λ (turn : Caller). length turn.waits) left.turn ∙ ours.waits;
     objects = ap (λ (visitor : Visitor). length visitor.noted) left.visitor ∙ ours.objects;
+    shapes = left.shapes ∙ ours.shapes;
     spans = ap (λ (visitor : Visitor). length visitor.freeing) left.visitor ∙ ours.spans;
     queue = queue ∙ ours.queue;
     keep = (λ i. (keep i).what) ∙ ours.keep;
@@ -39,6 +41,7 @@ pub left_lock : {P O R : Type 0} (n : ℕ) (v y : PassView P O R) → y ≡ took
 left_lock n v y leaves held none = record {
   turn = ap (λ (z : PassView _ _ _). z.turn) leaves;
   visitor = ap (λ (z : PassView _ _ _). z.visitor) leaves;
+  shapes = ap (λ (z : PassView _ _ _). z.shapes) leaves;
   held =
       ap (λ (z : PassView _ _ _). z.taker.held) leaves ∙ ap (λ ns. filter (λ m. not (eqb m n)) ns) held
       ∙ ap (λ b. cond (not b) (n ∷ []) []) (eq-eqb n n refl);

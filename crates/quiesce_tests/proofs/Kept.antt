@@ -23,6 +23,7 @@ left_free sys old new word found is same e =
       freeing = refl;
       held = refl;
       notes = refl;
+      shapes = refl;
     }))
 
 -- the role changes neither its cells nor its notes
@@ -50,4 +51,5 @@ reclaimed_free sys old new is given e =
       freeing = length-replicate (length old.view.visitor.freeing) (0, 0);
       held = refl;
       notes = refl;
+      shapes = refl;
     }))

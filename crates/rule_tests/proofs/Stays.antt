@@ -30,8 +30,9 @@ free_taken sys old new found is same e = free_alike sys old new is same.table sa
     freeing = refl;
     held = refl;
     notes = refl;
+    shapes = refl;
   })
-  go false taken = rw taken (record { proc = refl; waits = refl; noted = refl; freeing = refl; held = refl; notes = refl })
+  go false taken = rw taken (record { proc = refl; waits = refl; noted = refl; freeing = refl; held = refl; notes = refl; shapes = refl })
 
 freed_spans : (x : Visitor) (o found n : ℕ) → length (visitor_freed x o found n).freeing ≡ length x.freeing
 freed_spans x o found n = go (nat_lt found n) where
@@ -56,6 +57,7 @@ free_freed sys old new o found is same e =
       freeing = freed_spans old.view.visitor o found (number_noted old.view o);
       held = refl;
       notes = refl;
+      shapes = refl;
     }))
 
 -- where it has given the role back
@@ -69,4 +71,5 @@ free_given sys old new is given e =
       freeing = length-replicate (length old.view.visitor.freeing) (0, 0);
       held = refl;
       notes = refl;
+      shapes = refl;
     }))

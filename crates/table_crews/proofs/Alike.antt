@@ -12,6 +12,7 @@ pub record IsAlike {P O R : Type 0} (v w : PassView P O R) : Type 0 where
   pub freeing : length w.visitor.freeing ≡ length v.visitor.freeing
   pub held : w.taker.held ≡ v.taker.held
   pub notes : w.notes ≡ v.notes
+  pub shapes : w.shapes ≡ v.shapes
 
 pub free_alike : {L P O R : Type 0} (sys : SysSeen L) (old new : PassSeen P O R) → HoldsNoCell sys old → new.table ≡ old.table → new.queue ≡ old.queue → new.keep ≡ old.keep → IsAlike old.view new.view
     → HoldsNoCell sys new
@@ -21,6 +22,7 @@ free_alike sys old new is table queue keep alike = record {
     proc = subst (λ p. p < sys.procs) (sym alike.proc) is.ours.proc;
     waits = alike.waits ∙ is.ours.waits;
     objects = alike.noted ∙ is.ours.objects;
+    shapes = alike.shapes ∙ is.ours.shapes;
     spans = alike.freeing ∙ is.ours.spans;
     queue = queue ∙ is.ours.queue;
     keep = ap (λ (k : Keeping). k.what) keep ∙ is.ours.keep;

@@ -73,6 +73,7 @@ module _ {P : Type 0} where
         proc = subst (λ (x : PassView P O R). x.turn.proc < sys.procs) (sym e) is.ours.proc;
         waits = ap (λ (x : PassView P O R). length x.turn.waits) e ∙ is.ours.waits;
         objects = ap (λ (x : PassView P O R). length x.visitor.noted) e ∙ is.ours.objects;
+        shapes = ap (λ (x : PassView P O R). x.shapes) e ∙ is.ours.shapes;
         spans = ap (λ (x : PassView P O R). length x.visitor.freeing) e ∙ is.ours.spans;
         queue = queue ∙ is.ours.queue;
         keep = ap (λ (k : Keeping). k.what) keep ∙ is.ours.keep;

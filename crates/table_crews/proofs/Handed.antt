@@ -1,5 +1,6 @@
 -- What a pass that blocks its object has handed on: nothing yet.
-use Rattle.std.proofs.Common.{◌≡◌, ℕ, Bool, true, false, Option, Some, None, refl, ap, ◌∙◌, ◌==◌, if◌then◌else◌}
+use Rattle.std.proofs.Common.{◌≡◌, ℕ, Bool, true, false, List, Option, Some, None, refl, ap, ◌∙◌, ◌==◌, if◌then◌else◌}
+use Rattle.k42_shapes.specs.declared.shape.Shape.{Shape}
 use Rattle.phase_core.specs.Stages.{is_moved}
 use Rattle.phase_core.specs.declared.caller.SwapAt.{SwapAt}
 use Rattle.k42_board.specs.Log.{took}
@@ -9,10 +10,10 @@ use Rattle.k42_board.specs.declared.view.LastBegin.{LastBegin}
 use Rattle.k42_board.specs.declared.view.PassView.{PassView}
 use Rattle.k42_board.specs.declared.view.StepName.{StepName}
 
-pub unhanded : (swap : SwapAt) (turned : Bool) (handed : Option ℕ) (last : Option LastBegin) → FitsSwap swap turned handed last
+pub unhanded : (shapes : List (List Shape)) (swap : SwapAt) (turned : Bool) (handed : Option ℕ) (last : Option LastBegin) → FitsSwap shapes swap turned handed last
     → is_moved swap ≡ false → handed ≡ None
-unhanded swap turned None last fits e = refl
-unhanded swap turned (Some tag) last fits e = let moved = fits.moved refl in absurd (cc (moved, e))
+unhanded shapes swap turned None last fits e = refl
+unhanded shapes swap turned (Some tag) last fits e = let moved = fits.moved refl in absurd (cc (moved, e))
 
 either : {P O R : Type 0} (b : Bool) (v w : PassView P O R) (handed : Option ℕ) → v.handed ≡ handed → w.handed ≡ handed → (if b then v else w).handed ≡ handed
 either true v w handed first second = first

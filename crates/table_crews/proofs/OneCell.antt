@@ -8,7 +8,9 @@ use Rattle.std.proofs.lemmas.List.{length-append}
 use Rattle.std.proofs.lemmas.Option.{same_Some}
 use Rattle.k42_places.specs.Places.{EachPlace}
 use Rattle.k42_kinds.specs.LayoutLaws.{Agree, IsReached}
-use Rattle.k42_kinds.specs.Rows.{cells_of, IsWithin}
+use Rattle.k42_shapes.specs.Shapes.{cells_of}
+use Rattle.k42_shapes.proofs.ShapeLaws.{few_cells}
+use Rattle.k42_kinds.specs.Rows.{IsWithin}
 use Rattle.k42_kinds.specs.declared.entry.Entry.{Entry}
 use Rattle.k42_kinds.specs.declared.entry.Reach.TheVariants.{One}
 use Rattle.phase_core.specs.Stages.{IsInside, object_of, row_of}
@@ -17,7 +19,7 @@ use Rattle.phase_core.specs.declared.caller.Place.TheVariants.{Out, Missed, Dire
 use Rattle.turn_core.specs.Events.{caller_locked}
 use Rattle.turn_core.specs.Names.{names}
 use Rattle.k42_stamp.specs.Laws.{AreLaws}
-use Rattle.k42_stamp.specs.Layouts.{Layouts}
+use Rattle.k42_stamp.specs.Layouts.{Layouts, IsKnown, shape_of}
 use Rattle.k42_joined.specs.Numbers.{cell_of}
 use Rattle.k42_joined.specs.Rows.{cells_reached}
 use Rattle.k42_board.specs.Cells.{cells_noted}
@@ -75,12 +77,6 @@ pub taken_from : {P O R : Type 0} (n found : ℕ) (content : Content P O R) (v r
     → w ≡ took_cell n content locked → w ≡ took_cell n content (lock_asked n found v)
 taken_from n found content v roomy locked w same is taken = taken ∙ ap (took_cell n content) (is ∙ ap (lock_asked n found) same)
 
-few_cells : (tag procs p : ℕ) → 0 < procs → p < cells_of tag procs → p < procs
-few_cells tag procs p some = go (eqb tag 1) where
-  go : (b : Bool) → p < cond b procs 1 → p < procs
-  go true lt = lt
-  go false lt = omega (arith, lt, some)
-
 -- the last cell of those that were told of one entry, where there is one
 pub told_last : {P O R : Type 0} (notes : List (Note P O R)) (c : Content P O R) (old new rest : List (Content P O R)) (x : Content P O R) → old ≡ c ∷ [] → AreTold notes old new
     → new ≡ rest ++ x ∷ [] → IsTold notes c x
@@ -99,16 +95,16 @@ module _ {S L P O R : Type 0} (F : Layouts S L P O R) (laws : AreLaws F) (declar
     pub declares : slice_get declared o ≡ Some declaration
     pub kind : F.object_of layout ≡ F.object_of declaration
     pub tagged : told ≡ Some (F.tag_of layout)
-    pub known : F.tag_of layout ≤ 2
+    pub known : IsKnown F layout
     pub on : proc < F.procs
     pub takes : IsTrue ((F.object_of layout).takes op)
     pub reach : (F.ways_of layout).reach F.procs op proc ≡ One p
 
   pub at_one : (v w : PassView P O R) (n found : ℕ) (content : Content P O R) (inside : Inside) (layout : L) (op : O) (p : ℕ) → IsServing v → inside ≡ inside_in v
-      → IsLayoutOf F.object_of declared inside.object layout → F.tag_of layout ≡ inside.layout → inside.layout ≤ 2 → v.turn.proc < F.procs
+      → IsLayoutOf F.object_of declared inside.object layout → F.tag_of layout ≡ inside.layout → IsKnown F layout → v.turn.proc < F.procs
       → IsTrue ((F.object_of layout).takes op) → (F.ways_of layout).reach F.procs op v.turn.proc ≡ One p → w ≡ took_cell n content (lock_asked n found v)
       → IsAtOne w.visitor.place w.layout w.turn.proc layout op inside.object inside.incarnation p
-  at_one v w n found content inside layout op p serving is of tag few on takes reach e =
+  at_one v w n found content inside layout op p serving is of tag known on takes reach e =
       subst (λ (x : PassView P O R). IsAtOne x.visitor.place x.layout x.turn.proc layout op inside.object inside.incarnation p) (sym e)
       (record {
         inside = subst (λ (z : Inside). IsInside v.visitor.place z.object z.incarnation) (sym is) (served_inside v.visitor.place serving.served);
@@ -116,7 +112,7 @@ module _ {S L P O R : Type 0} (F : Layouts S L P O R) (laws : AreLaws F) (declar
         declares = of.declares;
         kind = of.same;
         tagged = known_layout v.layout serving.layout ∙ ap Some (sym (tag ∙ ap (λ (z : Inside). z.layout) is));
-        known = subst (λ t. t ≤ 2) (sym tag) few;
+        known = known;
         on = on;
         takes = takes;
         reach = reach;
@@ -145,8 +141,10 @@ module _ {S L P O R : Type 0} (F : Layouts S L P O R) (laws : AreLaws F) (declar
 
     pub within : p < F.procs
     within =
-        few_cells (F.tag_of layout) F.procs p laws.some
-        (subst (IsWithin (cells_of (F.tag_of layout) F.procs)) is.reach (laws.reaches layout w.turn.proc op is.known is.on is.takes))
+        let few = few_cells (shape_of F layout) F.procs laws.some in
+        let lt : p < cells_of (shape_of F layout) F.procs =
+        subst (IsWithin (cells_of (shape_of F layout) F.procs)) is.reach (laws.reaches layout w.turn.proc op is.known is.on is.takes) in
+        omega (arith, few, lt)
 
     -- once its part was stepped
     module _ (after : P) (reply : R)

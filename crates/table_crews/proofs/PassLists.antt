@@ -7,6 +7,7 @@ use Rattle.std.proofs.lemmas.Bool.{le-leb, eqb-true, and_parts}
 use Rattle.std.proofs.lemmas.List.{length-map}
 use Rattle.std.proofs.lemmas.Option.{same_Some}
 use Rattle.std.proofs.Math.Seq.{take-append_seam}
+use Rattle.k42_shapes.specs.Shapes.{shared_and_spread}
 use Rattle.co_any.specs.declared.layout.AnyLayout.{AnyLayout}
 use Rattle.k42_board.specs.Seen.{SysSeen, PassSeen, is_at_rest}
 use Rattle.k42_board.specs.Starting.{IsStarted}
@@ -17,7 +18,7 @@ use Rattle.k42_rule.specs.Tags.{HaveTags}
 use Rattle.table_crews.specs.Ready.{HoldsNoCell, HoldNoCells, rests_at, rest_from}
 
 -- all layouts of this type have all tags
-pub any_tags : (layouts : List AnyLayout) → HaveTags (λ (layout : AnyLayout) tag. leb tag 2) layouts
+pub any_tags : (layouts : List AnyLayout) → HaveTags (λ (layout : AnyLayout). shared_and_spread) (λ (layout : AnyLayout) tag. leb tag 2) layouts
 any_tags layouts o layout e tag few = le-leb tag 2 few
 
 module _ {L P : Type 0} (sys : SysSeen L) where

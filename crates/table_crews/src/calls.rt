@@ -12,6 +12,7 @@ ghost use Rattle.table_crews.specs.Ready.{HoldsNoCell, IsIn, IsServing};
 use crate::crews::Walk;
 use crate::steps::step;
 use co_any::AnyLayout;
+use k42_board::layout_in;
 use k42_kinds::{Layout, Op};
 use k42_memory::Memory;
 use k42_rule::{
@@ -50,11 +51,8 @@ pub fn install<L: Layout>(sys: &Sys<L>, pass: &mut Pass<L>, object: u32, incarna
     ensures out { result ≡ false → IsIn pass.new.view }
 {
     let root = root_step(sys, pass, object);
-    let cell = if root / 268_435_456 % 4 == 1 {
-        pass.processor()
-    } else {
-        0
-    };
+    let layout = sys.declared(object).with_tag(layout_in(root));
+    let cell = layout.shape().cell_called(pass.processor());
     install_step(sys, pass, object, cell) == u64::from(incarnation) * 4_294_967_296
 }
 
@@ -90,7 +88,7 @@ pub fn look_up<L: Layout>(sys: &Sys<L>, pass: &mut Pass<L>, object: u32) -> Foun
     requires there { object < length sys.now.layouts }
     ensures free { HoldsNoCell sys.now pass.new }
     ensures none { HasDrawnNone pass.old.view pass.new.view }
-    ensures found { EntryFound pass.old.view result.word }
+    ensures found { EntryFound object pass.old.view result.word }
     ensures served { result.served ≡ true → IsServing pass.new.view }
     ensures out { result.served ≡ false → IsIn pass.new.view }
 {

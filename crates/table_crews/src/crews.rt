@@ -28,8 +28,8 @@ pub fn start<L: Layout>(
     callers: Vec<u32>,
     keep: Keep,
 ) -> Result<(Sys<L>, Vec<Pass<L>>), Memory>
-    requires start { IsStart L.tag_of layouts.items procs callers.items }
-    requires tags { HaveTags L.has_tag layouts.items }
+    requires start { IsStart L.shapes L.tag_of layouts.items procs callers.items }
+    requires tags { HaveTags L.shapes L.has_tag layouts.items }
     ensures started { IfOk result (λ made. IsStarted layouts.items procs callers.items made.0 made.1.items) }
     ensures free { IfOk result (λ made. HoldNoCells made.0 made.1.items) }
     ensures callers { IfOk result (λ made. length made.0.callers ≡ length callers.items) }

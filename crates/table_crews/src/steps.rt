@@ -1,6 +1,7 @@
 //! An operation at the one cell that it needs.
 ghost use Rattle.std.specs.Prelude.{◌≡◌, ◌<◌, ◌≤◌, IsTrue, IfOk, IfSome, OnOk, Some, unwrap_or};
 ghost use Rattle.k42_limits.specs.declared.TheConstants.{PROCESSORS};
+ghost use Rattle.k42_shapes.specs.Shapes.{IsKnownTag};
 ghost use Rattle.k42_kinds.specs.LayoutLaws.{IsReached};
 ghost use Rattle.k42_board.specs.Seen.{inside_in};
 ghost use Rattle.table_crews.specs.Drawn.{HasDrawn};
@@ -25,7 +26,7 @@ fn step_part<L: Layout>(
     procs: u32,
     op: &L::Op,
 ) -> Result<L::Reply, Memory>
-    requires known { (L.tag_of layout.now ≤ 2) × (place < procs) × (procs ≤ PROCESSORS) }
+    requires known { IsKnownTag (L.shapes layout.now) (L.tag_of layout.now) × (place < procs) × (procs ≤ PROCESSORS) }
     requires takes { IsTrue ((L.object layout.now).takes op.now) }
     requires reached { IsReached (L.ways layout.now) (L.whole layout.now)
         (unwrap_or cell.old.part ((L.ways layout.now).empty procs place)) op.now }
@@ -57,7 +58,8 @@ pub fn step_at<L: Layout>(
     requires free { HoldsNoCell sys.now pass.old }
     requires serving { IsServing pass.old.view }
     requires inside { (inside.now ≡ inside_in pass.old.view) × (inside.now.object < 16) }
-    requires layout { IsLayoutOf L.object sys.now.layouts inside.now.object layout.now × (L.tag_of layout.now ≡ inside.now.layout) × (inside.now.layout ≤ 2) }
+    requires layout { IsLayoutOf L.object sys.now.layouts inside.now.object layout.now × (L.tag_of layout.now ≡ inside.now.layout)
+        × IsKnownTag (L.shapes layout.now) (L.tag_of layout.now) }
     requires takes { IsTrue ((L.object layout.now).takes op.now) }
     ensures free { OnOk result (HoldsNoCell sys.now pass.new) }
     ensures serving { OnOk result (IsServing pass.new.view) }

@@ -14,7 +14,7 @@ use Rattle.k42_board.specs.declared.view.StepName.TheVariants as steps
 
 -- a caller that has missed the first object in its first row, and holds no cell, may take its lock
 pub may_lock_first : {P O R : Type 0} (procs at word : ℕ) (v w : PassView P O R) → v.turn.proc < procs → is_missed v.visitor.place 0 ≡ true → v.taker.held ≡ []
-    → w ≡ took steps.LoadRoot at word (rooted_view word v) → RootFound v word → word ≡ 268435456 → MayLock procs 0 w
+    → w ≡ took steps.LoadRoot at word (rooted_view word v) → RootFound 0 v word → word ≡ 268435456 → MayLock procs 0 w
 may_lock_first {P} procs at word v w home missed held is found same =
     subst (MayLock procs 0) (sym is)
     (record {

@@ -1,5 +1,6 @@
 //! Callers that miss an entry: one installs it, another finds it there or finds the cell held.
 ghost use Rattle.std.specs.Prelude.{◌≡◌, true};
+ghost use Rattle.k42_shapes.specs.Shapes.{IsLiveTag};
 ghost use Rattle.phase_core.specs.Stages.{is_out, is_missed};
 ghost use Rattle.k42_tables.specs.Entries.{LeadsTo, EndsAt};
 ghost use Rattle.k42_tables.specs.declared.answers.Entered.TheVariants as Entered;
@@ -10,6 +11,7 @@ ghost use Rattle.tables_tests.specs.Callers.{IsBusy};
 use co_any::AnyLayout;
 use k42_kinds::{KindName, Layout, LayoutName};
 use k42_rule::{Keep, Pass, Sys, lock, root_step};
+use k42_shapes::Shape;
 use k42_tables::{
     Entered, Filled, Root, SharedRoot, SpreadRoot, Tried, finish_call, look_up, miss, try_miss,
 };
@@ -87,8 +89,8 @@ fn start<L: Layout>(
     alloc: Global,
     layout: L,
 ) -> (Sys<L>, Pass<L>, Pass<L>, Pass<L>)
-    requires live { L.tag_of layout ≡ 1 }
-    requires tags { HasTags L.has_tag layout }
+    requires live { IsLiveTag (L.shapes layout) (L.tag_of layout) }
+    requires tags { HasTags L.shapes L.has_tag layout }
     ensures first { HoldsNoCell result.0 result.1 }
     ensures second { HoldsNoCell result.0 result.2 }
     ensures third { HoldsNoCell result.0 result.3 }
@@ -106,8 +108,8 @@ fn start<L: Layout>(
 
 /// Two callers of one processor miss, and one of them installs the entry of both.
 fn meet_at_a_cell<L: Layout, R: Abort + Wait>(rt: &R, alloc: Global, layout: L)
-    requires live { L.tag_of layout ≡ 1 }
-    requires tags { HasTags L.has_tag layout }
+    requires live { IsLiveTag (L.shapes layout) (L.tag_of layout) }
+    requires tags { HasTags L.shapes L.has_tag layout }
 {
     let (sys, mut first, mut second, mut third) = start(rt, alloc, layout);
     come_in(rt, &sys, &mut first);
@@ -123,8 +125,8 @@ fn meet_at_a_cell<L: Layout, R: Abort + Wait>(rt: &R, alloc: Global, layout: L)
 
 /// A caller tries at a cell that another one holds.
 fn meet_a_holder<L: Layout>(rt: &impl Abort, alloc: Global, layout: L)
-    requires live { L.tag_of layout ≡ 1 }
-    requires tags { HasTags L.has_tag layout }
+    requires live { IsLiveTag (L.shapes layout) (L.tag_of layout) }
+    requires tags { HasTags L.shapes L.has_tag layout }
 {
     let (sys, mut first, mut second, _third) = start(rt, alloc, layout);
     come_in(rt, &sys, &mut first);
@@ -146,7 +148,11 @@ fn an_entry_is_installed_once(rt: HostRuntime) {
 }
 
 #[test]
-fn a_root_names_a_cell_for_each_processor(rt: HostRuntime) {
+fn a_root_names_a_cell_for_each_processor_or_group(rt: HostRuntime) {
     assert!(rt; SharedRoot.cell_for(5) == 0 && SharedRoot.cells(8) == 1);
     assert!(rt; SpreadRoot.cell_for(5) == 5 && SpreadRoot.cells(8) == 8);
+    assert!(rt; Shape::Each.cell_for(5) == 5 && Root::cells(&Shape::Each, 8) == 8);
+    let threes = Shape::Groups(3);
+    assert!(rt; threes.cell_for(5) == 1 && threes.cell_for(6) == 2);
+    assert!(rt; Root::cells(&threes, 8) == 3);
 }

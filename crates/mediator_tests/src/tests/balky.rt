@@ -1,5 +1,7 @@
 //! A layout of the counter that may balk at what it is to import.
-ghost use Rattle.std.specs.Prelude.{◌≡◌, nat_le};
+ghost use Rattle.std.specs.Prelude.{◌≡◌, refl, nat_le};
+ghost use Rattle.std.proofs.Common.{arith};
+ghost use Rattle.k42_shapes.specs.Shapes.{shared_and_spread};
 ghost use Rattle.k42_kinds.specs.declared.operation.KindName.TheVariants as kinds;
 ghost use Rattle.k42_kinds.specs.Objects.{plain_object};
 ghost use Rattle.co_any.specs.Layouts.{ways_of, whole_of, serves_of, admitted_of, act_of};
@@ -8,6 +10,7 @@ ghost use Rattle.co_any.specs.AnyLaws.{any_steps, any_steps_all, any_reaches, an
 use co_any::{AnyLayout, AnyPart, AnyState};
 use k42_kinds::{Act, Kind, KindName, Layout, Op, Reach, Reply};
 use k42_memory::Memory;
+use k42_shapes::Shape;
 use std::alloc::Global;
 
 /// The counter's layout of that tag. Where it is to refuse, its import is answered by want of memory.
@@ -51,6 +54,8 @@ impl Kind for Balky {
 impl Layout for Balky {
     type Part = AnyPart;
 
+    ghost shapes = { λ _. shared_and_spread };
+
     ghost tag_of = { λ layout. layout.tag };
 
     ghost has_tag = { λ _ tag. nat_le tag 2 };
@@ -67,6 +72,14 @@ impl Layout for Balky {
 
     fn tag(&self) -> u32 {
         self.tag
+    }
+
+    fn live(&self) -> u32 {
+        self.counter().live()
+    }
+
+    fn shape(&self) -> Shape {
+        self.counter().shape()
     }
 
     fn with_tag(&self, tag: u32) -> Self {
@@ -130,6 +143,10 @@ impl Layout for Balky {
     ghost swaps = { λ layout state known. any_swaps kinds.Counter layout.tag state };
 
     ghost asks = { λ layout. any_asks layout.tag };
+
+    ghost alike = { λ layout other same. refl };
+
+    ghost few = { λ _. omega arith };
 
     ghost agrees = { λ layout other same tags. any_agrees kinds.Counter kinds.Counter layout.tag other.tag same tags };
 }

@@ -5,6 +5,7 @@ ghost use Rattle.k42_board.specs.Phases.{is_served};
 ghost use Rattle.mediator_tests.specs.Ready.{IsBusy, IsHolding};
 ghost use Rattle.table_crews.specs.Ready.{HoldsNoCell, IsServing};
 
+use k42_board::layout_in;
 use k42_kinds::Layout;
 use k42_mediator::{Begun, Knocked, Phase, begin, knock};
 use k42_quiesce::{enter, leave};
@@ -103,11 +104,8 @@ pub(super) fn install<L: Layout>(rt: &impl Abort, sys: &Sys<L>, pass: &mut Pass<
 {
     assert!(rt; 0 < sys.objects());
     let root = root_step(sys, pass, 0);
-    let cell = if root / 268_435_456 % 4 == 1 {
-        pass.processor()
-    } else {
-        0
-    };
+    let layout = sys.declared(0).with_tag(layout_in(root));
+    let cell = layout.shape().cell_called(pass.processor());
     let found = install_step(sys, pass, 0, cell);
     assert!(rt; found == root / 4_294_967_296 * 4_294_967_296);
 }

@@ -1,6 +1,7 @@
 //! Systems of one object on one processor, and the passes of their two callers.
 ghost use Rattle.std.specs.Prelude.{◌≡◌, length};
 ghost use Rattle.k42_rule.specs.Tags.{HasTags};
+ghost use Rattle.k42_shapes.specs.Shapes.{IsLiveTag};
 ghost use Rattle.table_crews.specs.Ready.{HoldsNoCell};
 
 use k42_kinds::{Entry, Layout};
@@ -14,8 +15,8 @@ pub(super) fn start<L: Layout>(
     alloc: Global,
     layout: L,
 ) -> (Sys<L>, Pass<L>, Pass<L>)
-    requires live { L.tag_of layout ≡ 0 }
-    requires tags { HasTags L.has_tag layout }
+    requires live { IsLiveTag (L.shapes layout) (L.tag_of layout) }
+    requires tags { HasTags L.shapes L.has_tag layout }
     ensures callers { length result.0.callers ≡ 2 }
     ensures zero { HoldsNoCell result.0 result.1 }
     ensures one { HoldsNoCell result.0 result.2 }

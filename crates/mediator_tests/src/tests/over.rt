@@ -1,8 +1,9 @@
 //! A pass that finds an object over draws that at a cell, which a caller may hold.
-ghost use Rattle.std.specs.Prelude.{◌<◌};
+ghost use Rattle.std.specs.Prelude.{◌<◌, length};
 ghost use Rattle.k42_kinds.specs.declared.entry.Act.TheVariants as Act;
 ghost use Rattle.k42_kinds.specs.declared.entry.To.TheVariants as To;
 ghost use Rattle.k42_board.specs.Seen.{HasRoom};
+ghost use Rattle.k42_board.specs.Views.{object_begun};
 ghost use Rattle.k42_mediator.specs.Marks.{MayMark};
 ghost use Rattle.mediator_tests.specs.Ready.{IsHolding};
 ghost use Rattle.table_crews.specs.Ready.{HoldsNoCell};
@@ -62,6 +63,7 @@ fn find_dead(rt: &impl Abort, sys: &Sys<AnyLayout>, pass: &mut Pass<AnyLayout>)
     requires { HoldsNoCell sys.now pass.old }
     ensures free { HoldsNoCell sys.now pass.new }
     ensures may { MayMark (Act.Swap To.Dead) pass.new.view }
+    ensures there { object_begun pass.new.view.last < length sys.now.layouts }
     ensures room { HasRoom pass.new }
 {
     assert!(rt; pass.is_idle() && 0 < sys.objects());
@@ -74,9 +76,11 @@ fn find_dead(rt: &impl Abort, sys: &Sys<AnyLayout>, pass: &mut Pass<AnyLayout>)
 fn find_held(rt: &impl Abort, sys: &Sys<AnyLayout>, pass: &mut Pass<AnyLayout>, holder: u32)
     requires free { HoldsNoCell sys.now pass.old }
     requires may { MayMark (Act.Swap To.Dead) pass.old.view }
+    requires there { object_begun pass.old.view.last < length sys.now.layouts }
     requires room { HasRoom pass.old }
     ensures free { HoldsNoCell sys.now pass.new }
     ensures may { MayMark (Act.Swap To.Dead) pass.new.view }
+    ensures there { object_begun pass.new.view.last < length sys.now.layouts }
     ensures room { HasRoom pass.new }
 {
     let answer = mark(sys, pass, Act::Swap(To::Dead));
@@ -87,6 +91,7 @@ fn find_held(rt: &impl Abort, sys: &Sys<AnyLayout>, pass: &mut Pass<AnyLayout>, 
 fn draw(rt: &impl Abort, sys: &Sys<AnyLayout>, pass: &mut Pass<AnyLayout>)
     requires free { HoldsNoCell sys.now pass.old }
     requires may { MayMark (Act.Swap To.Dead) pass.old.view }
+    requires there { object_begun pass.old.view.last < length sys.now.layouts }
     requires room { HasRoom pass.old }
     ensures { HoldsNoCell sys.now pass.new }
 {

@@ -1,5 +1,6 @@
 //! The phases of a swap.
 ghost use Rattle.std.specs.Prelude.{◌≡◌, ◌≤◌, true, None};
+ghost use Rattle.k42_shapes.specs.Shapes.{IsKnownTag};
 ghost use Rattle.k42_board.specs.Swapping.{MayMove};
 ghost use Rattle.k42_mediator.specs.Swaps.{HasBegun, HasMoved, HasTransferred, HasOpened};
 ghost use Rattle.k42_mediator.specs.Transfers.{IsOfKind};
@@ -90,7 +91,7 @@ pub(super) fn move_now<L: Layout>(rt: &impl Abort, sys: &Sys<L>, pass: &mut Pass
 pub(super) fn give_up<L: Layout>(rt: &impl Abort, sys: &Sys<L>, pass: &mut Pass<L>, to: &L)
     requires free { HoldsNoCell sys.now pass.old }
     requires moved { HasMoved pass.old.view }
-    requires known { L.tag_of to.now ≤ 2 }
+    requires known { IsKnownTag (L.shapes to.now) (L.tag_of to.now) }
     ensures { HoldsNoCell sys.now pass.new }
 {
     pass.reserve().expect(rt, "memory");
@@ -109,7 +110,7 @@ pub(super) fn hand_nothing_on<L: Layout>(
     requires free { HoldsNoCell sys.now pass.old }
     requires moved { HasMoved pass.old.view }
     requires kind { IsOfKind L.object sys.now.layouts 0 to.now }
-    requires known { L.tag_of to.now ≤ 2 }
+    requires known { IsKnownTag (L.shapes to.now) (L.tag_of to.now) }
     ensures free { HoldsNoCell sys.now pass.new }
     ensures moved { HasMoved pass.new.view }
 {
@@ -130,7 +131,7 @@ pub(super) fn transfer_to<L: Layout>(
     requires free { HoldsNoCell sys.now pass.old }
     requires moved { HasMoved pass.old.view }
     requires kind { IsOfKind L.object sys.now.layouts 0 to.now }
-    requires known { L.tag_of to.now ≤ 2 }
+    requires known { IsKnownTag (L.shapes to.now) (L.tag_of to.now) }
     ensures free { HoldsNoCell sys.now pass.new }
     ensures transferred { HasTransferred pass.new.view }
 {
@@ -179,7 +180,7 @@ pub(super) fn swap<L: Layout>(
 )
     requires free { HoldsNoCell sys.now pass.old }
     requires kind { IsOfKind L.object sys.now.layouts 0 to.now }
-    requires known { L.tag_of to.now ≤ 2 }
+    requires known { IsKnownTag (L.shapes to.now) (L.tag_of to.now) }
     ensures { HoldsNoCell sys.now pass.new }
 {
     take_over(rt, sys, pass);

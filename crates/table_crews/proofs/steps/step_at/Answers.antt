@@ -22,7 +22,7 @@ use Rattle.table_crews.proofs.steps.step_at.Goals as goal
 pub step_part-requires-clause-reached : goal.step_part-requires-clause-reached
 step_part-requires-clause-reached g c κs inside_lifetimes =
     let procs : ℕ = c.args.sys.now.procs in let callers : List ℕ = c.args.sys.now.callers in let v = c.args.pass.now.view in let w = c.take-cell.new.pass.view in
-    let F = layouts_on g.L.Kind.object g.L.Layout.tag_of g.L.Layout.ways g.L.Layout.whole g.L.Layout.serves g.L.Layout.admitted g.L.Layout.act_of procs callers in
+    let F = layouts_on g.L.Kind.object g.L.Layout.shapes g.L.Layout.tag_of g.L.Layout.ways g.L.Layout.whole g.L.Layout.serves g.L.Layout.admitted g.L.Layout.act_of procs callers in
     let laws = c.layouts_are_lawful.ensures in
     let met = g.met.L.Layout g.world.𝓛 g.world.𝓜 g.world.𝓡 ((λ s x. x), (λ x. x), (λ x. x), λ x. x) in
     let layout = c.args.layout.now in let op = c.args.op.now in let inside = c.args.inside.now in let p : ℕ = c.in-One.place in let content = c.take-cell.result in
@@ -39,7 +39,7 @@ step_part-requires-clause-reached g c κs inside_lifetimes =
 pub draw_call-stamp-requires-clause-may : goal.draw_call-stamp-requires-clause-may
 draw_call-stamp-requires-clause-may g c κs inside_lifetimes =
     let procs : ℕ = c.args.sys.now.procs in let callers : List ℕ = c.args.sys.now.callers in let v = c.args.pass.now.view in let w = c.take-cell.new.pass.view in
-    let F = layouts_on g.L.Kind.object g.L.Layout.tag_of g.L.Layout.ways g.L.Layout.whole g.L.Layout.serves g.L.Layout.admitted g.L.Layout.act_of procs callers in
+    let F = layouts_on g.L.Kind.object g.L.Layout.shapes g.L.Layout.tag_of g.L.Layout.ways g.L.Layout.whole g.L.Layout.serves g.L.Layout.admitted g.L.Layout.act_of procs callers in
     let laws = c.layouts_are_lawful.ensures in
     let met = g.met.L.Layout g.world.𝓛 g.world.𝓜 g.world.𝓡 ((λ s x. x), (λ x. x), (λ x. x), λ x. x) in
     let layout = c.args.layout.now in let op = c.args.op.now in let inside = c.args.inside.now in let p : ℕ = c.in-One.place in let content = c.take-cell.result in
@@ -68,7 +68,7 @@ draw_call-stamp-requires-clause-may g c κs inside_lifetimes =
 pub put-requires-clause-may : goal.put-requires-clause-may
 put-requires-clause-may g c κs inside_lifetimes =
     let procs : ℕ = c.args.sys.now.procs in let callers : List ℕ = c.args.sys.now.callers in let v = c.args.pass.now.view in let w = c.take-cell.new.pass.view in
-    let F = layouts_on g.L.Kind.object g.L.Layout.tag_of g.L.Layout.ways g.L.Layout.whole g.L.Layout.serves g.L.Layout.admitted g.L.Layout.act_of procs callers in
+    let F = layouts_on g.L.Kind.object g.L.Layout.shapes g.L.Layout.tag_of g.L.Layout.ways g.L.Layout.whole g.L.Layout.serves g.L.Layout.admitted g.L.Layout.act_of procs callers in
     let laws = c.layouts_are_lawful.ensures in
     let met = g.met.L.Layout g.world.𝓛 g.world.𝓜 g.world.𝓡 ((λ s x. x), (λ x. x), (λ x. x), λ x. x) in
     let layout = c.args.layout.now in let op = c.args.op.now in let inside = c.args.inside.now in let p : ℕ = c.in-One.place in let content = c.take-cell.result in

@@ -5,7 +5,7 @@ use Rattle.k42_board.specs.Log.{took}
 use Rattle.k42_board.specs.Words.{lock_word}
 use Rattle.k42_board.specs.declared.view.StepName.TheVariants as names
 use Rattle.k42_mediator.specs.Marks.{HasMarked, cell_marked}
-use Rattle.k42_runtime.specs.Swaps.{HasStepped, graces_due, IsEndBy}
+use Rattle.k42_runtime.specs.Swaps.{SwapSeen, HasStepped, graces_due, IsEndBy}
 use Rattle.k42_runtime.specs.Systems.{LIVE, IsPassHere, IsAtRest}
 use Rattle.k42_runtime.specs.Phases.{end_in}
 use Rattle.k42_runtime.specs.declared.swaps.Stage.TheVariants.{New, Marking, Over}
@@ -23,7 +23,7 @@ returns-in-Marked c =
     let has : HasMarked (Swap s.to) old new = search rules in
     let last : new.view.last ≡ old.view.last = marked_last (Swap s.to) old new has in
     let word : ℕ = word_begun old.view.last in
-    let live : live_at old.view (object_begun old.view.last) ≡ LIVE = ap (live_at old.view) stage.1.begun ∙ c.layouts_are_told.ensures.live in
+    let live : live_at old.view (object_begun old.view.last) ≡ LIVE = ap (live_at old.view) (stage.1.begun ∙ sym (ap (λ (x : SwapSeen). x.object) c.self.view_is)) ∙ c.layouts_are_told.ensures.live in
     let over = over_here word (live_at old.view (object_begun old.view.last)) live stage.1.may.over in
     let is = over_ends word has.answer over (told_here word has.answer (live_at old.view (object_begun old.view.last)) live has.told) in
     let end : c.end_over.result ≡ end_in word = c.end_over.ensures ∙ ap (λ l. end_in (word_begun l)) last in
@@ -52,7 +52,7 @@ returns-in-Held c =
     let old = c.args.pass.now in let new = c.mark.new.pass in let n : ℕ = cell_marked old.view in let holder : ℕ = c.in-Held.holder in
     let held = held_answer _ _ c.mark.result holder (Swap c.self.inside.to) old new c.in-Held.is c.mark.ensures in
     let found = found_held holder old.view new.view held.takes.knows held.takes.finds
-    (over_here (word_begun old.view.last) (live_at old.view (object_begun old.view.last)) (ap (live_at old.view) c.requires.marking.1.begun ∙ c.layouts_are_told.ensures.live) c.requires.marking.1.may.over) in
+    (over_here (word_begun old.view.last) (live_at old.view (object_begun old.view.last)) (ap (live_at old.view) (c.requires.marking.1.begun ∙ sym (ap (λ (x : SwapSeen). x.object) c.self.view_is)) ∙ c.layouts_are_told.ensures.live) c.requires.marking.1.may.over) in
     let knows : new.view ≡ took names.Lock (lock_word n) (holder + 1) old.view = found.0 in
     record {
       here = search rules;
