@@ -157,6 +157,7 @@ module _ {P : Type 0} (object : ℕ) (op : Op) (p0 p1 : PassView P Op Reply) (go
   tried_outside cause is = record {
     out = is.0;
     keeps = goes.keeps;
+    shapes = goes.shapes;
     held = ap (λ (x : Caller Op Reply). x.held) goes.taker;
     notes = goes.notes;
     told = (ap (λ (x : Caller Op Reply). x.mine) goes.taker, ap (λ (x : Caller Op Reply). x.clock) goes.taker, is.1);
@@ -166,6 +167,7 @@ module _ {P : Type 0} (object : ℕ) (op : Op) (p0 p1 : PassView P Op Reply) (go
   tried_nothing out log = record {
     out = out;
     keeps = goes.keeps;
+    shapes = goes.shapes;
     held = ap (λ (x : Caller Op Reply). x.held) goes.taker;
     notes = goes.notes;
     told = (ap (λ (x : Caller Op Reply). x.mine) goes.taker, ap (λ (x : Caller Op Reply). x.clock) goes.taker, log);
@@ -189,6 +191,7 @@ module _ {P : Type 0} (object : ℕ) (op : Op) (p0 p1 : PassView P Op Reply) (go
         let keeps = kept (p1.taker.mine ++ entry ∷ []) entry.stamp (ap (λ (v : PassView P Op Reply). own_in v) knows) in
         record {
           out = ap (λ (v : PassView P Op Reply). is_out v.visitor.place) knows;
+          shapes = ap (λ (v : PassView P Op Reply). v.shapes) knows ∙ goes.shapes;
           keeps = keeps;
           held = ap (λ (v : PassView P Op Reply). v.taker.held) knows ∙ ap (λ (x : Caller Op Reply). x.held) goes.taker;
           notes = ap (λ (v : PassView P Op Reply). v.notes) knows ∙ goes.notes;
@@ -225,6 +228,7 @@ module _ {P : Type 0} (object : ℕ) (op : Op) (p0 p1 : PassView P Op Reply) (go
         let held : WasHeld object holder p0 p2 = held_before object (object_inside p1) holder p0 p1 p2 (ap (λ (own : Own). own.number) goes.keeps) inside.0.of inside.1 is.1 in
         record {
           out = ap (λ (v : PassView P Op Reply). is_out v.visitor.place) knows;
+          shapes = ap (λ (v : PassView P Op Reply). v.shapes) knows ∙ goes.shapes;
           keeps = kept p1.taker.mine p1.taker.clock (ap (λ (v : PassView P Op Reply). own_in v) knows);
           held = ap (λ (v : PassView P Op Reply). v.taker.held) knows ∙ ap (λ (x : Caller Op Reply). x.held) goes.taker;
           notes = ap (λ (v : PassView P Op Reply). v.notes) knows ∙ goes.notes;
@@ -248,6 +252,7 @@ module _ {P : Type 0} (object : ℕ) (op : Op) (p0 p1 : PassView P Op Reply) (go
         let knows = still is.knows in
         record {
           out = ap (λ (v : PassView P Op Reply). is_out v.visitor.place) knows;
+          shapes = ap (λ (v : PassView P Op Reply). v.shapes) knows ∙ goes.shapes;
           keeps = kept p1.taker.mine p1.taker.clock (ap (λ (v : PassView P Op Reply). own_in v) knows);
           held = ap (λ (v : PassView P Op Reply). v.taker.held) knows ∙ ap (λ (x : Caller Op Reply). x.held) goes.taker;
           notes = ap (λ (v : PassView P Op Reply). v.notes) knows ∙ goes.notes;

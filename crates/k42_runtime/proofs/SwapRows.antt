@@ -39,6 +39,7 @@ handed_here system mid new handed here = record {
     proc = subst (λ (v : PassView SystemPart Op Reply). v.turn.proc < system.sys.procs) (sym handed.knows) here.ours.proc;
     waits = ap (λ (v : PassView SystemPart Op Reply). length v.turn.waits) handed.knows ∙ here.ours.waits;
     objects = ap (λ (v : PassView SystemPart Op Reply). length v.visitor.noted) handed.knows ∙ here.ours.objects;
+    shapes = ap (λ (v : PassView SystemPart Op Reply). v.shapes) handed.knows ∙ here.ours.shapes;
     spans = ap (λ (v : PassView SystemPart Op Reply). length v.visitor.freeing) handed.knows ∙ here.ours.spans;
     queue = handed.queue ∙ here.ours.queue;
     keep = (λ i. (handed.keep i).what) ∙ here.ours.keep;

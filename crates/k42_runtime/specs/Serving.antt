@@ -1,5 +1,5 @@
 -- A call inside the row that serves it: what the pass has there, and what becomes of it.
-use Rattle.std.specs.Prelude.{◌≡◌, ℕ, ◌<◌, ◌≤◌, true, IsTrue, List, [], length, Option, Some, None, slice_get, is_some}
+use Rattle.std.specs.Prelude.{◌≡◌, ℕ, ◌<◌, true, IsTrue, List, [], length, Option, Some, None, slice_get, is_some}
 use Rattle.k42_kinds.specs.declared.entry.Act.TheVariants.{Call}
 use Rattle.k42_kinds.specs.declared.entry.Answer.TheVariants.{Replied}
 use Rattle.k42_kinds.specs.declared.entry.Entry.{Entry}
@@ -45,6 +45,7 @@ pub record IsServing {P : Type 0} (object : ℕ) (v : PassView P Op Reply) : Typ
 -- only where it is may be other
 pub record GoesBy {P : Type 0} (old new : PassView P Op Reply) : Type 0 where
   pub keeps : KeepsElse old new
+  pub shapes : new.shapes ≡ old.shapes
   pub taker : new.taker ≡ old.taker
   pub notes : new.notes ≡ old.notes
 
@@ -169,6 +170,7 @@ TellsTry steps.Worn object op old new = ⊥
 pub record HasTried {P : Type 0} (step : CallStep) (object : ℕ) (op : Op) (old new : PassView P Op Reply) : Type 0 where
   pub out : is_out new.visitor.place ≡ true
   pub keeps : KeepsElse old new
+  pub shapes : new.shapes ≡ old.shapes
   pub held : new.taker.held ≡ old.taker.held
   pub notes : new.notes ≡ old.notes
   pub told : TellsTry step object op old new
