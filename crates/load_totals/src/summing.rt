@@ -93,8 +93,8 @@ fn tallied<E: Entries<Op, Reply> + Drop>(alloc: Global, mut entries: E) -> Resul
     ensures { IfOk result (λ tally. tally ≡ loads.tallied (E.left entries)) }
 {
     let mut tally = Tally::new(alloc);
-    while let Some(entry) = entries.next() {
-        tally.add(&entry)?;
+    while let Some(entry) = &entries.next() {
+        tally.add(entry)?;
     }
     Ok(tally)
 }

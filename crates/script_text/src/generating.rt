@@ -67,7 +67,7 @@ fn worker_lines(alloc: Global, steps: u32, line: u32, worker: u32) -> Result<Wor
     ensures few { IfOk result (λ lines. length lines.items ≤ steps) }
 {
     Ok(WorkerLines {
-        name: numbered_name(alloc, b'w', worker)?,
+        name: numbered_name(&mut Vec::new(alloc), b'w', worker)?,
         proc: worker,
         items: step_items(alloc, steps, line + 1, worker)?,
     })
@@ -80,14 +80,15 @@ fn step_items(alloc: Global, steps: u32, line: u32, worker: u32) -> Result<Items
         items ≡ trial.step_items steps line (trial.steps_of worker steps)) }
     ensures few { IfOk result (λ items. length items ≤ steps) }
 {
-    let mut items = Items::new(alloc);
+    let mut items = Items::of(Vec::with_capacity(alloc, (steps / WORKERS + 1) as usize)?);
+    let mut bytes = Vec::new(alloc);
     let mut drawn = u64::from(steps);
     for before in 0..steps {
         let step = before + 1;
         drawn = next_drawn(drawn);
         if step % WORKERS == worker {
             let number = line + items.len() as u32;
-            items.push(Item::Line(step_line(alloc, number, step, drawn)?))?;
+            items.push(Item::Line(step_line(&mut bytes, number, step, drawn)?))?;
         }
     }
     Ok(items)
@@ -103,14 +104,14 @@ fn next_drawn(number: u64) -> u64
 }
 
 /// The line of a step.
-fn step_line(alloc: Global, line: u32, step: u32, drawn: u64) -> Result<CallLine, Memory>
+fn step_line(bytes: &mut Vec<u8>, line: u32, step: u32, drawn: u64) -> Result<CallLine, Memory>
     ensures { IfOk result (λ asked. asked ≡ trial.step_line line step (drawn / 2 ^ 32)) }
 {
     match step % 1000 {
         0 => Ok(swap_line(line, step, 0)),
         252 => Ok(swap_line(line, step, 2)),
         500 => Ok(swap_line(line, step, 1)),
-        _ => call_line(alloc, line, step, (drawn >> 32) as u32),
+        _ => call_line(bytes, line, step, (drawn >> 32) as u32),
     }
 }
 
@@ -129,18 +130,18 @@ fn swap_line(line: u32, step: u32, object: u32) -> CallLine
     }
 }
 
-fn call_line(alloc: Global, line: u32, step: u32, value: u32) -> Result<CallLine, Memory>
+fn call_line(bytes: &mut Vec<u8>, line: u32, step: u32, value: u32) -> Result<CallLine, Memory>
     ensures { IfOk result (λ asked. asked ≡ trial.call_line line step value) }
 {
     let (object, op) = match step / 4 % 3 {
         0 => (0, Op::Add(value)),
         1 => (
             1,
-            Op::Bind(numbered_name(alloc, b'n', value % 100)?, u64::from(step)),
+            Op::Bind(numbered_name(bytes, b'n', value % 100)?, u64::from(step)),
         ),
         _ => (
             2,
-            Op::Write((value % PAGES) as u16, numbered_text(alloc, b'v', step)?),
+            Op::Write((value % PAGES) as u16, numbered_text(bytes, b'v', step)?),
         ),
     };
     Ok(CallLine {
@@ -150,28 +151,27 @@ fn call_line(alloc: Global, line: u32, step: u32, value: u32) -> Result<CallLine
     })
 }
 
-/// The letter, and the number in decimal behind it.
-fn numbered(alloc: Global, letter: u8, number: u32) -> Result<Vec<u8>, Memory>
-    ensures { IfOk result (λ bytes. bytes.items ≡ letter ∷ decimal number) }
+/// Writes the letter, and the number in decimal behind it, over what is there.
+fn put_numbered(bytes: &mut Vec<u8>, letter: u8, number: u32) -> Result<(), Memory>
+    ensures { OnOk result (bytes.new.items ≡ letter ∷ decimal number) }
 {
-    let mut bytes = Vec::new(alloc);
+    bytes.clear();
     bytes.push(letter)?;
-    put_digits(&mut bytes, u64::from(number))?;
-    Ok(bytes)
+    put_digits(bytes, u64::from(number))
 }
 
-fn numbered_name(alloc: Global, letter: u8, number: u32) -> Result<Name, Memory>
+fn numbered_name(bytes: &mut Vec<u8>, letter: u8, number: u32) -> Result<Name, Memory>
     requires { is_lower letter ≡ true }
     ensures { IfOk result (λ name. name ≡ letter ∷ decimal number) }
 {
-    let bytes = numbered(alloc, letter, number)?;
-    Ok(Name::of(&bytes).unwrap())
+    put_numbered(bytes, letter, number)?;
+    Ok(Name::of(bytes.as_slice()).unwrap())
 }
 
-fn numbered_text(alloc: Global, letter: u8, number: u32) -> Result<Text, Memory>
+fn numbered_text(bytes: &mut Vec<u8>, letter: u8, number: u32) -> Result<Text, Memory>
     requires { is_lower letter ≡ true }
     ensures { IfOk result (λ text. text ≡ letter ∷ decimal number) }
 {
-    let bytes = numbered(alloc, letter, number)?;
-    Ok(Text::of(&bytes).unwrap())
+    put_numbered(bytes, letter, number)?;
+    Ok(Text::of(bytes.as_slice()).unwrap())
 }

@@ -3,4 +3,4 @@ use Rattle.script_text.proofs.Numbered.{text-numbered}
 use Rattle.script_text.proofs.generating.numbered_text.Goals as goal
 
 pub unwrap-requires : goal.unwrap-requires
-unwrap-requires c = c.of.ensures.spelled.1 (rw (c.deref.ensures.value, c.in_ok-bytes.ensures, text-numbered c.args.letter c.args.number c.requires c.ranges.number.fits) refl)
+unwrap-requires c = c.of.ensures.spelled.1 (rw (c.as_slice.ensures.value, c.in_ok-put_numbered.ensures, text-numbered c.args.letter c.args.number c.requires c.ranges.number.fits) refl)
