@@ -12,8 +12,8 @@ use Rattle.k42_kinds.specs.declared.entry.Reach.TheVariants.{One, All}
 use Rattle.k42_kinds.specs.Objects.{counter_object, counter_after, counter_reply}
 use Rattle.k42_kinds.specs.Rows.{Ways, IsWithin}
 use Rattle.k42_kinds.specs.LayoutLaws.{StepsRow, StandsFor, Begins, Imports, Agree}
-use Rattle.kind_tests.specs.declared.tests.groups.Groups.{Groups}
-use Rattle.kind_tests.specs.declared.tests.groups.Groups.TheVariants.{Two, Four}
+use Rattle.kind_tests.specs.declared.groups.Groups.{Groups}
+use Rattle.kind_tests.specs.declared.groups.Groups.TheVariants.{Two, Four}
 use Rattle.co_counter.specs.Counters.{IsValue, HasAmounts, total_of, spread_reach, amounts_after, first_amount, spread}
 use Rattle.co_counter.specs.SpreadLaws.{spread_steps, spread_steps_all, spread_reaches, spread_stands, spread_begins, spread_imports}
 
