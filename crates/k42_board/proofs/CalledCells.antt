@@ -6,7 +6,7 @@ use Rattle.atomic_table.specs.declared.shared.Seat.{Seat}
 use Rattle.k42_board.specs.Calling.{HasCalledAt, HasLeftCell, HasStepped, MayCallAt, MayCallWith, called_by, lifted_by, stepped_cell}
 use Rattle.k42_board.specs.Cells.{Slot}
 use Rattle.k42_board.specs.Drawing.{HasSmallStamp, IsTold, draws_at, entry_at, numbers_of, stamp_next, untold_view}
-use Rattle.k42_board.specs.Lifted.{HasMovedOnce, HasTakenWith, HoldsSlot, IsSeatWith, StaysFull, cells_in, slot_in}
+use Rattle.k42_board.specs.Lifted.{HasMovedOnce, HasTakenWith, HoldsSlot, IsSeatWith, StaysFull, cell_listed, slot_in}
 use Rattle.k42_board.specs.Log.{took}
 use Rattle.k42_board.specs.Plan.{LayoutWords}
 use Rattle.k42_board.specs.Protocol.{draw_call, lift, put}
@@ -121,7 +121,7 @@ module _ {S L P O R : Type 0} (words : LayoutWords S L P O R) (key : Setup L) (n
 
       -- the call is drawn at it
       module _ (may : MayCallAt (layouts_by words key) key.layouts.items layout p n op old.id v)
-          (s3 : Seat (Slot P O R) (View P O R)) (draws : (found : ℕ) → HasTakenWith words key (draw_call (cells_in (slot_in s2.me.1)) op reply) s2 found s3) where
+          (s3 : Seat (Slot P O R) (View P O R)) (draws : (found : ℕ) → HasTakenWith words key (draw_call (cell_listed (slot_in s2.me.1)) op reply) s2 found s3) where
         abbrev drawn : PassView P O R
         drawn = took steps.Draw (lock_word cell2.number) 0 (draws_at (cell2 ∷ []) (entry_at (cell2 ∷ []) op reply w) w)
 
@@ -129,7 +129,7 @@ module _ {S L P O R : Type 0} (words : LayoutWords S L P O R) (key : Setup L) (n
         id_may = may l.cell l.number noted1
 
         out3 : IsOut n s3.me drawn cell2
-        out3 = (draws 0).alone ∙ (λ j. (Crew ((draw_call {S = S} {L = L} (cells_in (slot_in (out2 j).1)) op reply (pass_in (out2 j).0)).after 0 ∷ []), (out2 j).1))
+        out3 = (draws 0).alone ∙ (λ j. (Crew ((draw_call {S = S} {L = L} (cell_listed (slot_in (out2 j).1)) op reply (pass_in (out2 j).0)).after 0 ∷ []), (out2 j).1))
 
         pub tell_holds : {table : TableId} → HoldsSlot words table key n s1 → HoldsSlot words table key n s3
         tell_holds h = out_holds s1 s3 h ((draws 0).table ∙ same.0) drawn cell2 out3 (ap Some l.number) l.number
@@ -139,7 +139,7 @@ module _ {S L P O R : Type 0} (words : LayoutWords S L P O R) (key : Setup L) (n
 
         small2 : HasSmallStamp (draws_at (cell2 ∷ []) (entry_at (cell2 ∷ []) op reply w) w)
         small2 =
-            subst (λ (m : Seated P O R). HasSmallStamp (draws_at (cells_in (slot_in m.1)) (entry_at (cells_in (slot_in m.1)) op reply (pass_in m.0)) (pass_in m.0))) out2 (draws 0).takes.finds
+            subst (λ (m : Seated P O R). HasSmallStamp (draws_at (cell_listed (slot_in m.1)) (entry_at (cell_listed (slot_in m.1)) op reply (pass_in m.0)) (pass_in m.0))) out2 (draws 0).takes.finds
 
         module _ (clock last stamp : ℕ) (clock_is : clock ≡ v.taker.clock) (last_is : IsSomeAnd (slot_in s1.me.1) (λ (content : Content P O R). last ≡ content.last))
             (stamp_is : stamp ≡ max clock last + 1) where
@@ -196,7 +196,7 @@ module _ {S L P O R : Type 0} (words : LayoutWords S L P O R) (key : Setup L) (n
                   stepped = is_stepped;
                   stamped = stamped;
                   drawn = λ found.
-                      subst (λ (z : ℕ × (Seated P O R × PassView P O R)). Takes (layouts_by words key) key.layouts.items (draw_call (cells_in (slot_in z.1.0.1)) op reply) z.0 (pass_in z.1.0.0) found z.1.1)
+                      subst (λ (z : ℕ × (Seated P O R × PassView P O R)). Takes (layouts_by words key) key.layouts.items (draw_call (cell_listed (slot_in z.1.0.1)) op reply) z.0 (pass_in z.1.0.0) found z.1.1)
                       (λ j. ((same.1 ∙ l.moved.seat) j, (out2 j, ap (λ (m : Seated P O R). pass_in m.0) out3 j))) (draws found).takes;
                   told = told4.cell;
                   tells = is_told;

@@ -14,7 +14,7 @@ use Rattle.k42_joined.specs.Event.{Event, AtCells}
 use Rattle.k42_joined.specs.State.{many_callers}
 use Rattle.k42_board.specs.Cells.{Slot}
 use Rattle.k42_board.specs.Drawing.{HasSmallStamp, IsTold, numbers_of, untold_view}
-use Rattle.k42_board.specs.Lifted.{IsSeatWith, slot_in, cells_in, StaysFull, LiftsKnown, HasTakenWith}
+use Rattle.k42_board.specs.Lifted.{IsSeatWith, slot_in, cell_listed, StaysFull, LiftsKnown, HasTakenWith}
 use Rattle.k42_board.specs.Log.{took, logs, put_at}
 use Rattle.k42_board.specs.Plan.{LayoutWords}
 use Rattle.k42_board.specs.Protocol.{lift, put}
@@ -186,7 +186,7 @@ module _ {S L P O R : Type 0} (words : LayoutWords S L P O R) (key : Setup L) (s
       }
 
 -- the cell that is out is the first of those at which is drawn
-pub first_in : {P O R : Type 0} (slot : Slot P O R) (n : ℕ) → IsSomeAnd slot (λ (content : Content P O R). content.number ≡ n) → n ≡ first_cell (numbers_of (cells_in slot))
+pub first_in : {P O R : Type 0} (slot : Slot P O R) (n : ℕ) → IsSomeAnd slot (λ (content : Content P O R). content.number ≡ n) → n ≡ first_cell (numbers_of (cell_listed slot))
 first_in None n is = absurd is
 first_in (Some content) n is = sym is
 

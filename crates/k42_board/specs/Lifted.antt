@@ -28,9 +28,9 @@ slot_in [] = None
 slot_in (carried ∷ others) = carried.1
 
 -- the cell in a slot, as a list
-abbrev pub cells_in : {P O R : Type 0} → Slot P O R → List (Content P O R)
-cells_in None = []
-cells_in (Some content) = content ∷ []
+abbrev pub cell_listed : {P O R : Type 0} → Slot P O R → List (Content P O R)
+cell_listed None = []
+cell_listed (Some content) = content ∷ []
 
 -- the slot had a cell and has one, and this is so of the two
 abbrev pub StaysFull : {P O R : Type 0} → (Content P O R → Content P O R → Type 0) → Slot P O R → Slot P O R → Type 0

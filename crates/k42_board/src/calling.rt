@@ -1,4 +1,4 @@
-//! A call at the one cell that it needs, which stays in its slot meanwhile: it is long, and would be moved twice.
+//! A call at one cell, made while the cell is in its slot.
 ghost use Rattle.std.specs.Prelude.{◌≡◌, ◌≤◌, ◌<◌, [], ◌∷◌, IsTrue, None, IfOk, OnOk, OnErr, IsSomeAnd};
 ghost use Rattle.k42_shapes.specs.Shapes.{IsKnownTag};
 ghost use Rattle.k42_limits.specs.declared.TheConstants.{LAST_STAMP, PROCESSORS};
@@ -15,7 +15,7 @@ ghost use Rattle.k42_board.specs.Words.{slot_of};
 use crate::board::{Board, BoardSeat};
 use crate::cell::Cell;
 use crate::encoding::slot_of;
-use crate::lifting::{lift_cell, lifted_word, put_lifted, tell_lifted};
+use crate::lifting::{draw_lifted, lift_cell, put_lifted, tell_lifted};
 use crate::stamps::stamp_after;
 use k42_kinds::Layout;
 use k42_memory::Memory;
@@ -82,7 +82,8 @@ fn step_slot<L: Layout>(
 ) -> Result<u64, Memory>
     requires known { IsKnownTag (L.shapes layout.now) (L.tag_of layout.now) × (place < procs) × (procs ≤ PROCESSORS) }
     requires takes { IsTrue ((L.object layout.now).takes op.now) }
-    requires reached { IsSomeAnd slot.old (λ content. IsReached (L.ways layout.now) (L.whole layout.now) (due_in (L.ways layout.now) procs place content) op.now) }
+    requires reached { IsSomeAnd slot.old (λ content. IsReached (L.ways layout.now) (L.whole layout.now)
+        (due_in (L.ways layout.now) procs place content) op.now) }
     ensures stepped { OnOk result (StaysFull (HasStepped (L.ways layout.now) procs place op.now reply.new) slot.old slot.new) }
     ensures last { IfOk result (λ last. IsSomeAnd slot.old (λ content. last ≡ content.last)) }
     ensures small { IfOk result (λ last. last ≤ LAST_STAMP) }
@@ -110,7 +111,8 @@ fn step_lifted<L: Layout>(
     requires holds { HoldsSlot L.Layout board.now.shared.table_id board.now.shared.key cell seat.old }
     requires known { IsKnownTag (L.shapes layout.now) (L.tag_of layout.now) × (place < procs) × (procs ≤ PROCESSORS) }
     requires takes { IsTrue ((L.object layout.now).takes op.now) }
-    requires reached { IsSomeAnd (slot_in seat.old.me.1) (λ content. IsReached (L.ways layout.now) (L.whole layout.now) (due_in (L.ways layout.now) procs place content) op.now) }
+    requires reached { IsSomeAnd (slot_in seat.old.me.1) (λ content. IsReached (L.ways layout.now) (L.whole layout.now)
+        (due_in (L.ways layout.now) procs place content) op.now) }
     ensures ours { (seat.new.table_id ≡ seat.old.table_id) × (seat.new.id ≡ seat.old.id) }
     ensures seated { IsSeatWith ((slot_of cell, slot_in seat.new.me.1) ∷ []) seat.new.me (pass_in seat.old.me.0) }
     ensures stepped { OnOk result (StaysFull (HasStepped (L.ways layout.now) procs place op.now reply.new) (slot_in seat.old.me.1) (slot_in seat.new.me.1)) }
@@ -145,11 +147,14 @@ pub fn call_cell<L: Layout>(
     requires known { IsKnownTag (L.shapes layout.now) (L.tag_of layout.now) × (place < procs) × (procs ≤ PROCESSORS) }
     requires takes { IsTrue ((L.object layout.now).takes op.now) }
     requires clock { (clock ≡ (pass_in seat.old.me.0).taker.clock) × (clock ≤ LAST_STAMP) }
-    requires call { MayCallAt (layouts_by L.Layout board.now.shared.key) board.now.shared.key.layouts.items layout.now place cell op.now seat.old.id (pass_in seat.old.me.0) }
+    requires call { MayCallAt (layouts_by L.Layout board.now.shared.key) board.now.shared.key.layouts.items
+        layout.now place cell op.now seat.old.id (pass_in seat.old.me.0) }
     ensures ours { (seat.new.table_id ≡ seat.old.table_id) × (seat.new.id ≡ seat.old.id) }
     ensures alone { IsSeatOf seat.new.me (pass_in seat.new.me.0) }
-    ensures called { IfOk result (λ stamp. HasCalledAt (layouts_by L.Layout board.now.shared.key) board.now.shared.key.layouts.items layout.now place cell op.now seat.old.id reply.new stamp (pass_in seat.old.me.0) (pass_in seat.new.me.0)) }
-    ensures memory { OnErr result (HasLeftCell (layouts_by L.Layout board.now.shared.key) board.now.shared.key.layouts.items cell seat.old.id (pass_in seat.old.me.0) (pass_in seat.new.me.0)) }
+    ensures called { IfOk result (λ stamp. HasCalledAt (layouts_by L.Layout board.now.shared.key) board.now.shared.key.layouts.items
+        layout.now place cell op.now seat.old.id reply.new stamp (pass_in seat.old.me.0) (pass_in seat.new.me.0)) }
+    ensures memory { OnErr result (HasLeftCell (layouts_by L.Layout board.now.shared.key) board.now.shared.key.layouts.items
+        cell seat.old.id (pass_in seat.old.me.0) (pass_in seat.new.me.0)) }
 {
     lift_cell::<L, Brand>(board, seat, cell);
     let Ok(last) = step_lifted(alloc, board, seat, layout, procs, cell, place, op, reply) else {
@@ -157,7 +162,7 @@ pub fn call_cell<L: Layout>(
         return Err(Memory);
     };
     let stamp = stamp_after(clock, last);
-    lifted_word::<L, Brand>(board, seat, cell, op, reply);
+    draw_lifted::<L, Brand>(board, seat, cell, op, reply);
     tell_lifted(board, seat, cell, stamp);
     put_lifted(board, seat, cell);
     Ok(stamp)

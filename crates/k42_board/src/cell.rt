@@ -7,7 +7,7 @@ use crate::view::View;
 use atomic_table::Badge;
 use k42_kinds::{Kind, Layout};
 
-/// A place for a part. The caller that holds it moves it through its slot.
+/// A place for a part. The caller that has its lock takes it out of its slot, or steps it there.
 #[derive(Drop)]
 pub struct Content<P: Drop, O, R> {
     /// Blank until the first entry is drawn at it.

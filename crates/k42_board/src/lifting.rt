@@ -3,7 +3,7 @@
 ghost use Rattle.std.specs.Prelude.{◌≡◌, [], ◌∷◌, ℕ, None, IfSome, IsSomeAnd};
 ghost use Rattle.k42_board.specs.Cells.{Slot};
 ghost use Rattle.k42_board.specs.Drawing.{AgreeOn, IsTold, MayDrawCall, draws_at, entry_at, untold_view};
-ghost use Rattle.k42_board.specs.Lifted.{HoldsSlot, HasTakenWith, HasMovedOnce, IsSeatWith, StaysFull, cells_in, slot_in};
+ghost use Rattle.k42_board.specs.Lifted.{HoldsSlot, HasTakenWith, HasMovedOnce, IsSeatWith, StaysFull, cell_listed, slot_in};
 ghost use Rattle.k42_board.specs.Protocol as protocol;
 ghost use Rattle.k42_board.specs.Receipts.{IsDue, after_first};
 ghost use Rattle.k42_board.specs.Seats as seats;
@@ -44,7 +44,7 @@ pub(crate) fn lift_cell<L: Layout, K: Known<L::Part, L::Op, L::Reply>>(
 
 /// Draws a call at the cell that is out.
 #[inline(always)]
-pub(crate) fn lifted_word<L: Layout, K: Said<L::Part, L::Op, L::Reply>>(
+pub(crate) fn draw_lifted<L: Layout, K: Said<L::Part, L::Op, L::Reply>>(
     board: &Board<L>,
     seat: &mut BoardSeat<L>,
     cell: usize,
@@ -53,9 +53,9 @@ pub(crate) fn lifted_word<L: Layout, K: Said<L::Part, L::Op, L::Reply>>(
 )
     requires agree { AgreeOn (layouts_by L.Layout board.now.shared.key) }
     requires holds { HoldsSlot L.Layout board.now.shared.table_id board.now.shared.key cell seat.old }
-    requires says { K.becomes ≡ draws_at (cells_in (slot_in seat.old.me.1)) (entry_at (cells_in (slot_in seat.old.me.1)) op.now reply.now (pass_in seat.old.me.0)) }
-    requires may { MayDrawCall (layouts_by L.Layout board.now.shared.key) board.now.shared.key.layouts.items (cells_in (slot_in seat.old.me.1)) op.now reply.now (pass_in seat.old.me.0) }
-    ensures { (found : ℕ) → HasTakenWith L.Layout board.now.shared.key (protocol.draw_call (cells_in (slot_in seat.old.me.1)) op.now reply.now) seat.old found seat.new }
+    requires says { K.becomes ≡ draws_at (cell_listed (slot_in seat.old.me.1)) (entry_at (cell_listed (slot_in seat.old.me.1)) op.now reply.now (pass_in seat.old.me.0)) }
+    requires may { MayDrawCall (layouts_by L.Layout board.now.shared.key) board.now.shared.key.layouts.items (cell_listed (slot_in seat.old.me.1)) op.now reply.now (pass_in seat.old.me.0) }
+    ensures { (found : ℕ) → HasTakenWith L.Layout board.now.shared.key (protocol.draw_call (cell_listed (slot_in seat.old.me.1)) op.now reply.now) seat.old found seat.new }
 {
     board.shared.load::<Draw<K>>(seat, lock_word(cell));
 }

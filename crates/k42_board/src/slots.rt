@@ -58,7 +58,7 @@ pub fn unlock_cell<L: Layout>(board: &Board<L>, seat: &mut BoardSeat<L>, cell: u
     board.shared.store::<Unlock>(seat, lock_word(cell), 0);
 }
 
-/// Changes what is in the slot that the seat took last for what was lent: a cell is long, and is moved once.
+/// Changes what is in the slot that the seat took last for what was lent.
 #[inline(always)]
 fn swap_slot<L: Layout>(
     board: &Board<L>,

@@ -25,7 +25,7 @@ fn stands_before(one: &Standing, other: &Standing) -> bool
     one.caller < other.caller
 }
 
-/// Puts it in the last one's stead, and then before the others that stand before it.
+/// Puts it in the last one's stead, and moves those that are to be read earlier behind it.
 fn enter_for_last(queue: &mut [Standing], standing: Standing)
     requires some { 0 < length queue.old }
     requires ordered { Ordered IsBehind (front_of queue.old) }

@@ -1,4 +1,4 @@
-//! A call at the one cell that it needs, which stays in its slot meanwhile.
+//! A call at one cell, made while the cell is in its slot.
 ghost use Rattle.std.specs.Prelude.{◌≡◌, ◌<◌, IsTrue, length, IfOk, OnErr, OnOk};
 ghost use Rattle.k42_shapes.specs.Shapes.{IsKnownTag};
 ghost use Rattle.turn_core.specs.Stamps.{last_stamp};
@@ -19,7 +19,7 @@ use k42_memory::Memory;
 use std::alloc::Global;
 
 /// Makes the operation at the cell, draws that with the stamp that it answers, and keeps the entry where any are kept.
-/// The reply is where room for it was lent. Without memory nothing is drawn, and the cell is as it was.
+/// The reply is where room for it was lent. Without memory the cell is put back, and nothing is drawn.
 #[inline(always)]
 pub fn call_one<L: Layout>(
     alloc: Global,
@@ -38,7 +38,8 @@ pub fn call_one<L: Layout>(
     requires known { IsKnownTag (L.shapes layout.now) (L.tag_of layout.now) × (place < sys.now.procs) }
     requires takes { IsTrue ((L.object layout.now).takes op.now) }
     requires call { MayCallAt (layouts_in L.Layout sys.now) sys.now.layouts layout.now place cell op.now pass.old.seat pass.old.view }
-    ensures called { IfOk result (λ stamp. HasCalledAt (layouts_in L.Layout sys.now) sys.now.layouts layout.now place cell op.now pass.old.seat reply.new stamp pass.old.view pass.new.view) }
+    ensures called { IfOk result (λ stamp. HasCalledAt (layouts_in L.Layout sys.now) sys.now.layouts
+        layout.now place cell op.now pass.old.seat reply.new stamp pass.old.view pass.new.view) }
     ensures drawer { OnOk result (IsDrawer pass.old pass.new) }
     ensures later { IfOk result (λ stamp. last_stamp pass.old.view.taker.mine < stamp) }
     ensures memory { OnErr result (HasLeftCell (layouts_in L.Layout sys.now) sys.now.layouts cell pass.old.seat pass.old.view pass.new.view) }

@@ -84,8 +84,8 @@ impl Model for Call {
     ghost view = { λ c. record { object = c.object; op = c.op; ended = c.ended } };
 }
 
-/// How many pauses, each twice the one before, a call makes that was held up more than once, before it yields its
-/// processor: whoever tries a lock takes its cache line from the caller that has it.
+/// How many pauses a call makes before it yields its processor, once it was held up a second time: they double up to 64
+/// spins, and stay there. Whoever tries a lock takes its cache line from the caller that has it.
 const PAUSES: u32 = 6;
 
 /// Waits before a call is tried again: the first time briefly.

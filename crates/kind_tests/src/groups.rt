@@ -7,7 +7,8 @@ ghost use Rattle.k42_kinds.specs.declared.entry.To.TheVariants.{Layout as Kept};
 ghost use Rattle.k42_kinds.specs.declared.operation.LayoutName.TheVariants.{Spread};
 ghost use Rattle.k42_kinds.specs.Objects.{counter_object};
 ghost use Rattle.co_counter.specs.Counters.{IsValue};
-ghost use Rattle.kind_tests.specs.Groups.{twos_and_fours, width_tag, grouped, HasGroups, grouped_steps, grouped_steps_all, grouped_reaches, grouped_stands, grouped_begins, grouped_imports, grouped_agree, never_dead};
+ghost use Rattle.kind_tests.specs.Groups.{twos_and_fours, width_tag, grouped, HasGroups, grouped_steps, grouped_steps_all, grouped_reaches};
+ghost use Rattle.kind_tests.specs.Groups.{grouped_stands, grouped_begins, grouped_imports, grouped_agree, never_dead};
 
 use co_counter::SpreadCounter;
 use k42_kinds::{Act, Kind, Layout, LayoutName, Op, Reach, Reply, To, step_counter};

@@ -1,5 +1,5 @@
 use Rattle.k42_board.specs.Drawing.{draws_at, entry_at}
-use Rattle.k42_board.specs.Lifted.{cells_in, slot_in}
+use Rattle.k42_board.specs.Lifted.{cell_listed, slot_in}
 use Rattle.k42_board.specs.Plan.{layouts_on}
 use Rattle.k42_board.specs.Taking.{AreRowsNoted}
 use Rattle.k42_board.specs.Views.{pass_in}
@@ -12,5 +12,5 @@ ghosts-lift_cell g a = record {
       a.board.now.shared.key.layouts.items;
 }
 
-abbrev pub ghosts-lifted_word : goal.ghosts-lifted_word
-ghosts-lifted_word g a = record { becomes = draws_at (cells_in (slot_in a.seat.now.me.1)) (entry_at (cells_in (slot_in a.seat.now.me.1)) a.op.now a.reply.now (pass_in a.seat.now.me.0)) }
+abbrev pub ghosts-draw_lifted : goal.ghosts-draw_lifted
+ghosts-draw_lifted g a = record { becomes = draws_at (cell_listed (slot_in a.seat.now.me.1)) (entry_at (cell_listed (slot_in a.seat.now.me.1)) a.op.now a.reply.now (pass_in a.seat.now.me.0)) }
