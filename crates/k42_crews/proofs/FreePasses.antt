@@ -127,6 +127,7 @@ given_free system stamp (pass ∷ passes) free =
             proc = here.ours.proc;
             waits = here.ours.waits;
             objects = here.ours.objects;
+            shapes = here.ours.shapes;
             spans = here.ours.spans;
             queue = here.ours.queue;
             keep = here.ours.keep;

@@ -20,6 +20,7 @@ returns c =
           proc = subst (λ p. p < c.args.system.now.sys.procs) (sym (ap (λ (v : PassView _ Op Reply). v.turn.proc) knows)) was.ours.proc;
           waits = ap (λ (v : PassView _ Op Reply). length v.turn.waits) knows ∙ was.ours.waits;
           objects = ap (λ (v : PassView _ Op Reply). length v.visitor.noted) knows ∙ was.ours.objects;
+          shapes = ap (λ (v : PassView _ Op Reply). v.shapes) knows ∙ was.ours.shapes;
           spans = ap (λ (v : PassView _ Op Reply). length v.visitor.freeing) knows ∙ was.ours.spans;
           queue = is.same.queue ∙ was.ours.queue;
           keep = (λ i. (is.same.keep i).what) ∙ was.ours.keep;
