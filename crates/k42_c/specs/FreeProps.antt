@@ -8,6 +8,8 @@ use Rattle.k42_kinds.specs.contracts.operation.Op as op
 use Rattle.k42_kinds.specs.contracts.operation.Reply as reply
 use Rattle.k42_kinds.specs.declared.operation.Op.{Op}
 use Rattle.k42_kinds.specs.declared.operation.Reply.{Reply}
+use Rattle.k42_shapes.specs.contracts.shape.Shape as shape
+use Rattle.k42_shapes.specs.declared.shape.Shape.{Shape}
 use Rattle.k42_runtime.specs.Systems.{SystemSeen, SystemPart, SystemPass}
 use Rattle.k42_watch.specs.contracts.watch.WatchPart as watched
 
@@ -20,8 +22,11 @@ op_set = Coded-set op.the_row.coded
 pub reply_set : IsSet Reply
 reply_set = Coded-set reply.the_row.coded
 
+pub shape_set : IsSet Shape
+shape_set = Coded-set shape.the_row.coded
+
 IsFree-prop : (system : SystemSeen) (pass : SystemPass) → IsProp (IsFree system pass)
-IsFree-prop system pass = hlevel (props, part_set, op_set, reply_set)
+IsFree-prop system pass = hlevel (props, part_set, op_set, reply_set, shape_set)
 
 pub AreFree-prop : (system : SystemSeen) (passes : List SystemPass) → IsProp (AreFree system passes)
 AreFree-prop system [] = Unit-prop

@@ -6,33 +6,33 @@ use Rattle.k42_runtime.specs.Swaps.{SwapSeen, IsAtStage, IsWaiting}
 use Rattle.k42_runtime.specs.Systems.{SystemSeen, SystemPart, SystemPass}
 use Rattle.k42_runtime.specs.declared.swaps.Stage.{Stage}
 use Rattle.k42_runtime.specs.declared.swaps.Stage.TheVariants as stages
-use Rattle.k42_c.specs.FreeProps.{op_set, part_set, reply_set}
+use Rattle.k42_c.specs.FreeProps.{op_set, part_set, reply_set, shape_set}
 use Rattle.k42_quiesce.specs.Gracing.{MayStep}
 use Rattle.k42_c.specs.Going.{IsForAll, IsReclaiming, IsSwapping}
 use Rattle.k42_kinds.specs.declared.operation.Op.{Op}
 use Rattle.k42_kinds.specs.declared.operation.Reply.{Reply}
 
 IsWaiting-prop : (object : ℕ) (holder : Option ℕ) (v : PassView SystemPart Op Reply) → IsProp (IsWaiting object holder v)
-IsWaiting-prop object None v = hlevel (props, part_set, op_set, reply_set)
-IsWaiting-prop object (Some holder) v = hlevel (props, part_set, op_set, reply_set)
+IsWaiting-prop object None v = hlevel (props, part_set, op_set, reply_set, shape_set)
+IsWaiting-prop object (Some holder) v = hlevel (props, part_set, op_set, reply_set, shape_set)
 
 IsAtStage-prop : (stage : Stage) (objects : ℕ) (swap : SwapSeen) (pass : SystemPass) → IsProp (IsAtStage stage objects swap pass)
-IsAtStage-prop stages.New objects swap pass = hlevel (props, part_set, op_set, reply_set)
-IsAtStage-prop stages.Waiting objects swap pass = hlevel (props, part_set, op_set, reply_set, IsWaiting-prop swap.object swap.holder pass.view)
-IsAtStage-prop stages.Shut objects swap pass = hlevel (props, part_set, op_set, reply_set)
-IsAtStage-prop stages.Marking objects swap pass = hlevel (props, part_set, op_set, reply_set)
-IsAtStage-prop stages.Over objects swap pass = hlevel (props, part_set, op_set, reply_set)
+IsAtStage-prop stages.New objects swap pass = hlevel (props, part_set, op_set, reply_set, shape_set)
+IsAtStage-prop stages.Waiting objects swap pass = hlevel (props, part_set, op_set, reply_set, shape_set, IsWaiting-prop swap.object swap.holder pass.view)
+IsAtStage-prop stages.Shut objects swap pass = hlevel (props, part_set, op_set, reply_set, shape_set)
+IsAtStage-prop stages.Marking objects swap pass = hlevel (props, part_set, op_set, reply_set, shape_set)
+IsAtStage-prop stages.Over objects swap pass = hlevel (props, part_set, op_set, reply_set, shape_set)
 
 pub IsSwapping-prop : (system : SystemSeen) (swap : SwapSeen) (pass : SystemPass) → IsProp (IsSwapping system swap pass)
-IsSwapping-prop system swap pass = hlevel (props, part_set, op_set, reply_set, IsAtStage-prop swap.stage (length system.plan.objects) swap pass)
+IsSwapping-prop system swap pass = hlevel (props, part_set, op_set, reply_set, shape_set, IsAtStage-prop swap.stage (length system.plan.objects) swap pass)
 
 MayStep-prop : (grace : Option ℕ) (v : PassView SystemPart Op Reply) → IsProp (MayStep grace v)
-MayStep-prop None v = hlevel (props, part_set, op_set, reply_set)
-MayStep-prop (Some holder) v = hlevel (props, part_set, op_set, reply_set)
+MayStep-prop None v = hlevel (props, part_set, op_set, reply_set, shape_set)
+MayStep-prop (Some holder) v = hlevel (props, part_set, op_set, reply_set, shape_set)
 
 IsForAll-prop : (grace : Option ℕ) (v : PassView SystemPart Op Reply) → IsProp (IsForAll grace v)
-IsForAll-prop None v = hlevel (props, part_set, op_set, reply_set)
-IsForAll-prop (Some holder) v = hlevel (props, part_set, op_set, reply_set)
+IsForAll-prop None v = hlevel (props, part_set, op_set, reply_set, shape_set)
+IsForAll-prop (Some holder) v = hlevel (props, part_set, op_set, reply_set, shape_set)
 
 pub IsReclaiming-prop : (system : SystemSeen) (grace : Option ℕ) (pass : SystemPass) → IsProp (IsReclaiming system grace pass)
-IsReclaiming-prop system grace pass = hlevel (props, part_set, op_set, reply_set, MayStep-prop grace pass.view, IsForAll-prop grace pass.view)
+IsReclaiming-prop system grace pass = hlevel (props, part_set, op_set, reply_set, shape_set, MayStep-prop grace pass.view, IsForAll-prop grace pass.view)

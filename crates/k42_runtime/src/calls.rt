@@ -1,5 +1,5 @@
 //! Calls, which may be stepped where nobody may wait.
-ghost use Rattle.std.specs.Prelude.{◌≡◌, ◌<◌, ◌↔◌, false, [], length, Err, IfOk};
+ghost use Rattle.std.specs.Prelude.{◌≡◌, ◌<◌, ◌≤◌, ◌↔◌, false, [], length, Err, IfOk};
 ghost use Rattle.k42_kinds.specs.declared.operation.Reply.{Reply};
 ghost use Rattle.k42_limits.specs.declared.TheConstants.{PASS_ENTRIES};
 ghost use Rattle.k42_board.specs.Seen.{IsPassOf};
@@ -84,19 +84,23 @@ impl Model for Call {
     ghost view = { λ c. record { object = c.object; op = c.op; ended = c.ended } };
 }
 
-/// How many pauses a call makes before it yields its processor, once it was held up a second time: they double up to 64
-/// spins, and stay there. Whoever tries a lock takes its cache line from the caller that has it.
+/// How many pauses a call makes before it yields its processor, where it found a cell held before: they double up to 64
+/// spins, and stay there. Whoever tries a lock takes its cache line from the caller that has it. A call that a swap blocks
+/// is tried again sooner, since the swap waits for its activity.
 const PAUSES: u32 = 6;
 
-/// Waits before a call is tried again: the first time briefly.
-fn wait_a_while(backoff: &Backoff, pauses: &mut u32)
-    ensures { pauses.new ≡ PAUSES }
+/// Waits before a call is tried again, and says how many pauses the next wait has.
+fn wait_a_while(backoff: &Backoff, cause: CallCause, pauses: u32) -> u32
+    ensures { result ≤ PAUSES }
 {
-    for _ in 0..*pauses {
+    for _ in 0..pauses {
         backoff.spin();
     }
     backoff.snooze();
-    *pauses = PAUSES;
+    match cause {
+        CallCause::CellHeld { .. } => PAUSES,
+        CallCause::Blocked | CallCause::Elsewhere { .. } => 0,
+    }
 }
 
 /// One try of a call.
@@ -241,7 +245,7 @@ impl System {
                 CallTry::Ended => return Ok(reply),
                 CallTry::Memory => return Err(NoCall::Memory),
                 CallTry::Worn => return Err(NoCall::Worn),
-                CallTry::Again(_) => wait_a_while(&backoff, &mut pauses),
+                CallTry::Again(cause) => pauses = wait_a_while(&backoff, cause, pauses),
             }
         }
         unreachable!()
