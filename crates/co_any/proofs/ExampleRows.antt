@@ -2,7 +2,6 @@
 use Rattle.std.proofs.Common.{◌≡◌, ◌^◌, List, [], ◌∷◌, refl, arith}
 use Rattle.std.specs.FinMap as finite
 use Rattle.k42_kinds.specs.declared.operation.KindName.TheVariants as kinds
-use Rattle.k42_kinds.specs.declared.operation.LayoutName.TheVariants as layouts
 use Rattle.k42_kinds.specs.declared.operation.Op.TheVariants.{Add, Get, Drain, Read}
 use Rattle.k42_kinds.specs.declared.operation.Reply.TheVariants.{Number, Gone}
 use Rattle.k42_kinds.specs.declared.entry.Act.TheVariants.{Swap}
@@ -16,7 +15,7 @@ use Rattle.k42_kinds.specs.Objects.{plain_object}
 use Rattle.co_pages.specs.Places.{no_places}
 use Rattle.co_any.specs.declared.part.AnyPart.{AnyPart}
 use Rattle.co_any.specs.declared.part.AnyPart.TheVariants as parts
-use Rattle.co_any.specs.Layouts.{ways_of, whole_of, serves_of, admitted_of, act_of, tag_named}
+use Rattle.co_any.specs.Layouts.{ways_of, whole_of, serves_of, admitted_of, act_of}
 
 -- a counter that is spread over two processors
 abbrev amounts : List AnyPart
@@ -99,7 +98,7 @@ live_at_the_dead_one served = cc served
 admitted : (admitted_of 1 (states.Counter 12) ≡ states.Counter 12) × (admitted_of 2 (states.Counter 12) ≡ states.Dead)
 admitted = (refl, refl)
 
-asked : (act_of (tag_named layouts.Shared) ≡ Swap (tos.Layout layouts.Shared)) × (act_of (tag_named layouts.Spread) ≡ Swap (tos.Layout layouts.Spread)) × (act_of 2 ≡ Swap tos.Dead)
+asked : (act_of 0 ≡ Swap (tos.Layout 0)) × (act_of 1 ≡ Swap (tos.Layout 1)) × (act_of 2 ≡ Swap tos.Dead)
 asked = (refl, refl, refl)
 
 -- a swap that was carried out leaves what its layout admits, and one that was refused leaves the state

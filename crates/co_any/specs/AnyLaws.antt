@@ -1,5 +1,5 @@
 -- The layouts of all kinds keep the laws of layouts.
-use Rattle.std.specs.Prelude.{◌≡◌, ℕ, zero, suc, ◌<◌, ◌≤◌, false, IsTrue, List, [], ◌∷◌, refl}
+use Rattle.std.specs.Prelude.{◌≡◌, ℕ, zero, suc, ◌<◌, ◌≤◌, false, IsTrue, nat_le, List, [], ◌∷◌, refl}
 use Rattle.std.proofs.Common.{arith, ap, sym, subst}
 use Rattle.k42_shapes.specs.declared.shape.Shape.TheVariants as shapes
 use Rattle.k42_shapes.specs.Shapes.{IsKnownTag, IsLiveTag, cells_of, is_dead_tag, shape_at, shared_and_spread}
@@ -181,3 +181,10 @@ any_agrees kind other tag its same tags =
       whole = λ procs row whole. subst (λ (k : KindName). whole_of k its procs row) kinds_same (subst (λ (t : ℕ). whole_of kind t procs row) tags whole);
       served = λ state served. subst (λ (k : KindName). serves_of k its state) kinds_same (subst (λ (t : ℕ). serves_of kind t state) tags served);
     }
+
+-- no number is missing
+pub any_has_all : (tag : ℕ) → IsKnownTag shared_and_spread tag → IsTrue (nat_le tag 2)
+any_has_all zero known = refl
+any_has_all (suc zero) known = refl
+any_has_all (suc (suc zero)) known = refl
+any_has_all (suc (suc (suc more))) known = absurd (omega (arith, known))

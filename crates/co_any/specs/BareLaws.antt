@@ -3,7 +3,6 @@ use Rattle.std.specs.Prelude.{◌≡◌, ◌≢◌, ℕ, zero, suc, ◌≤◌, t
 use Rattle.std.proofs.Common.{ap, ◌∙◌, inl, inr, arith}
 use Rattle.k42_shapes.specs.Shapes.{IsKnownTag, is_dead_tag, shared_and_spread}
 use Rattle.k42_kinds.specs.declared.operation.KindName.{KindName}
-use Rattle.k42_kinds.specs.declared.operation.LayoutName.TheVariants as layouts
 use Rattle.k42_kinds.specs.declared.operation.Op.{Op}
 use Rattle.k42_kinds.specs.declared.operation.Op.TheVariants.{Add, Get, Drain, Bind, Find, Unbind, Size, Write, Read, Dirty, Clean, Seen}
 use Rattle.k42_kinds.specs.declared.operation.Reply.TheVariants.{Gone}
@@ -60,7 +59,7 @@ pub any_keeps_state : (kind : KindName) → KeepsState (plain_object kind)
 any_keeps_state kind = keeps_to kind
 
 pub any_asks_by_tag : (tag : ℕ) → IsKnownTag shared_and_spread tag → AsksByTag (is_dead_tag shared_and_spread tag) (act_of tag)
-any_asks_by_tag zero known = inl (record { live = refl; name = layouts.Shared; act = refl })
-any_asks_by_tag (suc zero) known = inl (record { live = refl; name = layouts.Spread; act = refl })
+any_asks_by_tag zero known = inl (record { live = refl; number = 0; act = refl })
+any_asks_by_tag (suc zero) known = inl (record { live = refl; number = 1; act = refl })
 any_asks_by_tag (suc (suc zero)) known = inr (record { ended = refl; act = refl })
 any_asks_by_tag (suc (suc (suc more))) known = absurd (omega (arith, known))

@@ -1,11 +1,9 @@
 -- The layouts of all kinds, by their tags: 0 for the shared one, 1 for the spread one, 2 for the
 -- dead one.
-use Rattle.std.specs.Prelude.{◌≡◌, ℕ, zero, suc, List, [], ◌∷◌}
+use Rattle.std.specs.Prelude.{◌≡◌, ℕ, zero, suc, ◌<◌, ⊤, List, [], ◌∷◌}
 use Rattle.std.specs.FinMap as finite
 use Rattle.k42_kinds.specs.declared.operation.KindName.{KindName}
 use Rattle.k42_kinds.specs.declared.operation.KindName.TheVariants as kinds
-use Rattle.k42_kinds.specs.declared.operation.LayoutName.{LayoutName}
-use Rattle.k42_kinds.specs.declared.operation.LayoutName.TheVariants as layouts
 use Rattle.k42_kinds.specs.declared.operation.Reply.{Reply}
 use Rattle.k42_kinds.specs.declared.operation.Reply.TheVariants.{Gone}
 use Rattle.k42_kinds.specs.declared.states.AnyState.{AnyState}
@@ -13,6 +11,7 @@ use Rattle.k42_kinds.specs.declared.states.AnyState.TheVariants as states
 use Rattle.k42_kinds.specs.declared.operation.Op.{Op}
 use Rattle.k42_kinds.specs.declared.entry.Act.{Act}
 use Rattle.k42_kinds.specs.declared.entry.Act.TheVariants.{Swap}
+use Rattle.k42_kinds.specs.declared.entry.To.{To}
 use Rattle.k42_kinds.specs.declared.entry.To.TheVariants as tos
 use Rattle.k42_kinds.specs.declared.entry.Reach.TheVariants.{One}
 use Rattle.k42_kinds.specs.Objects.{Directory, Pages}
@@ -127,11 +126,17 @@ admitted_of (suc (suc more)) state = states.Dead
 admitted_of live state = state
 
 abbrev pub act_of : ℕ → Act Op
-act_of zero = Swap (tos.Layout layouts.Shared)
-act_of (suc zero) = Swap (tos.Layout layouts.Spread)
+act_of zero = Swap (tos.Layout 0)
+act_of (suc zero) = Swap (tos.Layout 1)
 act_of (suc (suc more)) = Swap tos.Dead
 
--- the tag of a live layout
-abbrev pub tag_named : LayoutName → ℕ
-tag_named layouts.Shared = 0
-tag_named layouts.Spread = 1
+-- a swap leads to one of the two, or to the dead one
+abbrev pub LeadsAny : To → Type 0
+LeadsAny (tos.Layout number) = number < 2
+LeadsAny tos.Dead = ⊤
+LeadsAny to = ⊥
+
+-- under this tag
+abbrev pub tag_to : To → ℕ
+tag_to (tos.Layout number) = number
+tag_to to = 2

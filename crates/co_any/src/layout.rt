@@ -2,9 +2,11 @@
 ghost use Rattle.std.specs.Prelude.{◌≡◌, ◌≤◌, nat_le, IsTrue, IfOk, refl};
 ghost use Rattle.std.proofs.Common.{arith};
 ghost use Rattle.k42_shapes.specs.Shapes.{shared_and_spread};
+ghost use Rattle.k42_kinds.specs.LayoutLaws.{IsTarget};
 ghost use Rattle.k42_kinds.specs.Objects.{plain_object};
-ghost use Rattle.co_any.specs.Layouts.{ways_of, whole_of, serves_of, admitted_of, act_of, tag_named};
-ghost use Rattle.co_any.specs.AnyLaws.{any_steps, any_steps_all, any_reaches, any_stands, any_begins, any_imports, any_ends, any_admits, any_swaps, any_asks, any_agrees};
+ghost use Rattle.co_any.specs.Layouts.{ways_of, whole_of, serves_of, admitted_of, act_of, tag_to, LeadsAny};
+ghost use Rattle.k42_kinds.specs.Operations.{layout_number};
+ghost use Rattle.co_any.specs.AnyLaws.{any_steps, any_steps_all, any_reaches, any_stands, any_begins, any_imports, any_ends, any_admits, any_swaps, any_asks, any_agrees, any_has_all};
 ghost use Rattle.k42_kinds.specs.Watched.{seen_asking};
 ghost use Rattle.co_any.specs.BareLaws.{any_takes_no_seen, any_keeps_state, any_asks_by_tag};
 
@@ -14,9 +16,10 @@ use crate::rows::{in_parts, step_own};
 use co_counter::{SharedCounter, SpreadCounter};
 use co_directory::{SharedDirectory, SpreadDirectory};
 use co_pages::{SharedPages, SpreadPages};
+use k42_clustered::Clustered;
 use k42_kinds::{
-    Act, AnyState, Kind, KindName, Layout, LayoutName, Op, Plain, Reach, Reply, To, is_seen,
-    step_counter, step_directory, step_pages, told,
+    Act, AnyState, Kind, KindName, Layout, LayoutName, Op, Plain, Reach, Reply, To, belongs_to,
+    is_seen, step_counter, step_directory, step_pages, told,
 };
 use k42_memory::Memory;
 use k42_shapes::Shape;
@@ -34,13 +37,12 @@ impl AnyLayout {
     /// The live layout of that name.
     pub fn of(kind: KindName, layout: LayoutName) -> AnyLayout
         ensures kind { result.kind ≡ kind }
-        ensures tag { result.tag ≡ tag_named layout }
+        ensures tag { result.tag ≡ layout_number layout }
     {
-        let tag = match layout {
-            LayoutName::Shared => 0,
-            LayoutName::Spread => 1,
-        };
-        AnyLayout { kind, tag }
+        AnyLayout {
+            kind,
+            tag: u32::from(layout.number()),
+        }
     }
 }
 
@@ -55,6 +57,10 @@ impl Kind for AnyLayout {
 
     fn empty(&self, alloc: Global) -> AnyState {
         Plain { kind: self.kind }.empty(alloc)
+    }
+
+    fn takes(&self, op: &Op) -> bool {
+        belongs_to(op, self.kind)
     }
 
     fn step(&self, alloc: Global, state: &mut AnyState, op: &Op) -> Result<Reply, Memory> {
@@ -81,6 +87,8 @@ impl Layout for AnyLayout {
 
     ghost act_of = { λ layout. act_of layout.tag };
 
+    ghost leads = { λ _. LeadsAny };
+
     fn tag(&self) -> u32 {
         self.tag
     }
@@ -101,6 +109,20 @@ impl Layout for AnyLayout {
             kind: self.kind,
             tag,
         }
+    }
+
+    fn target(&self, to: To, _present: u32) -> Self
+        requires { LeadsAny to }
+        ensures led { IsTarget (plain_object result.kind) (plain_object self.now.kind) shared_and_spread result.tag (act_of result.tag) to }
+        ensures kind { result.kind ≡ self.now.kind }
+        ensures tag { result.tag ≡ tag_to to }
+    {
+        let kind = self.kind;
+        let tag = match to {
+            To::Layout(number) => u32::from(number),
+            To::Dead | To::Watch | To::Unwatch => 2,
+        };
+        AnyLayout { kind, tag }
     }
 
     fn reach(&self, op: &Op, proc: u32, procs: u32) -> Reach {
@@ -202,8 +224,8 @@ impl Layout for AnyLayout {
 
     fn act(&self) -> Act<Op> {
         match self.tag {
-            0 => Act::Swap(To::Layout(LayoutName::Shared)),
-            1 => Act::Swap(To::Layout(LayoutName::Spread)),
+            0 => Act::Swap(To::Layout(0)),
+            1 => Act::Swap(To::Layout(1)),
             _ => Act::Swap(To::Dead),
         }
     }
@@ -255,4 +277,12 @@ impl Bare for AnyLayout {
     ghost keeps_state = { λ layout. any_keeps_state layout.kind };
 
     ghost asks_by_tag = { λ layout known. any_asks_by_tag layout.tag known };
+}
+
+impl Clustered for AnyLayout {
+    fn blank_reply() -> Reply {
+        Reply::Done
+    }
+
+    ghost has_all = { λ _ tag known. any_has_all tag known };
 }

@@ -1,15 +1,14 @@
 //! The layout of a counter that keeps one value for all.
-ghost use Rattle.std.specs.Prelude.{◌==◌, refl};
+ghost use Rattle.std.specs.Prelude.{◌≡◌, ◌==◌, refl};
 ghost use Rattle.std.proofs.Common.{arith};
 ghost use Rattle.k42_shapes.specs.Shapes.{shared_and_spread};
 ghost use Rattle.k42_kinds.specs.declared.entry.Act.TheVariants.{Swap};
 ghost use Rattle.k42_kinds.specs.declared.entry.To.TheVariants as tos;
-ghost use Rattle.k42_kinds.specs.declared.operation.LayoutName.TheVariants.{Shared};
 ghost use Rattle.k42_kinds.specs.Objects.{counter_object};
 ghost use Rattle.co_counter.specs.Counters.{IsValue, IsOneValue, shared};
 ghost use Rattle.co_counter.specs.SharedLaws.{shared_steps, shared_steps_all, shared_stands};
 
-use k42_kinds::{Act, Kind, Layout, LayoutName, Op, Reach, Reply, To, step_counter};
+use k42_kinds::{Act, Kind, KindName, Layout, Op, Reach, Reply, To, belongs_to, step_counter};
 use k42_memory::Memory;
 use k42_shapes::Shape;
 use std::alloc::Global;
@@ -29,6 +28,10 @@ impl Kind for SharedCounter {
 
     fn empty(&self, _alloc: Global) -> u64 {
         0
+    }
+
+    fn takes(&self, op: &Op) -> bool {
+        belongs_to(op, KindName::Counter)
     }
 
     fn step(&self, _alloc: Global, state: &mut u64, op: &Op) -> Result<Reply, Memory> {
@@ -53,7 +56,9 @@ impl Layout for SharedCounter {
 
     ghost admitted = { λ _ state. state };
 
-    ghost act_of = { λ _. Swap (tos.Layout Shared) };
+    ghost act_of = { λ _. Swap (tos.Layout 0) };
+
+    ghost leads = { λ _ to. to ≡ tos.Layout 0 };
 
     fn tag(&self) -> u32 {
         0
@@ -68,6 +73,10 @@ impl Layout for SharedCounter {
     }
 
     fn with_tag(&self, _tag: u32) -> Self {
+        SharedCounter
+    }
+
+    fn target(&self, _to: To, _present: u32) -> Self {
         SharedCounter
     }
 
@@ -103,7 +112,7 @@ impl Layout for SharedCounter {
     }
 
     fn act(&self) -> Act<Op> {
-        Act::Swap(To::Layout(LayoutName::Shared))
+        Act::Swap(To::Layout(0))
     }
 
     ghost steps = { λ _ procs proc values op known there takes whole. shared_steps procs values op whole };

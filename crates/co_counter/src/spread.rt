@@ -4,12 +4,11 @@ ghost use Rattle.std.proofs.Common.{arith};
 ghost use Rattle.k42_shapes.specs.Shapes.{shared_and_spread};
 ghost use Rattle.k42_kinds.specs.declared.entry.Act.TheVariants.{Swap};
 ghost use Rattle.k42_kinds.specs.declared.entry.To.TheVariants as tos;
-ghost use Rattle.k42_kinds.specs.declared.operation.LayoutName.TheVariants as layouts;
 ghost use Rattle.k42_kinds.specs.Objects.{counter_object};
 ghost use Rattle.co_counter.specs.Counters.{IsValue, HasAmounts, total_of, spread};
 ghost use Rattle.co_counter.specs.SpreadLaws.{spread_steps, spread_steps_all, spread_reaches, spread_stands, spread_begins, spread_imports};
 
-use k42_kinds::{Act, Kind, Layout, LayoutName, Op, Reach, Reply, To, step_counter};
+use k42_kinds::{Act, Kind, KindName, Layout, Op, Reach, Reply, To, belongs_to, step_counter};
 use k42_memory::Memory;
 use k42_shapes::Shape;
 use std::alloc::Global;
@@ -29,6 +28,10 @@ impl Kind for SpreadCounter {
 
     fn empty(&self, _alloc: Global) -> u64 {
         0
+    }
+
+    fn takes(&self, op: &Op) -> bool {
+        belongs_to(op, KindName::Counter)
     }
 
     fn step(&self, _alloc: Global, state: &mut u64, op: &Op) -> Result<Reply, Memory> {
@@ -64,7 +67,9 @@ impl Layout for SpreadCounter {
 
     ghost admitted = { λ _ state. state };
 
-    ghost act_of = { λ _. Swap (tos.Layout layouts.Spread) };
+    ghost act_of = { λ _. Swap (tos.Layout 1) };
+
+    ghost leads = { λ _ to. to ≡ tos.Layout 1 };
 
     fn tag(&self) -> u32 {
         1
@@ -79,6 +84,10 @@ impl Layout for SpreadCounter {
     }
 
     fn with_tag(&self, _tag: u32) -> Self {
+        SpreadCounter
+    }
+
+    fn target(&self, _to: To, _present: u32) -> Self {
         SpreadCounter
     }
 
@@ -127,7 +136,7 @@ impl Layout for SpreadCounter {
     }
 
     fn act(&self) -> Act<Op> {
-        Act::Swap(To::Layout(LayoutName::Spread))
+        Act::Swap(To::Layout(1))
     }
 
     ghost steps = { λ _ procs proc amounts op known there takes whole. spread_steps procs proc amounts op there takes whole };

@@ -1,17 +1,16 @@
 //! The layout of a directory that keeps one map for all.
-ghost use Rattle.std.specs.Prelude.{◌==◌, refl};
+ghost use Rattle.std.specs.Prelude.{◌≡◌, ◌==◌, refl};
 ghost use Rattle.std.proofs.Common.{arith};
 ghost use Rattle.k42_shapes.specs.Shapes.{shared_and_spread};
 ghost use Rattle.k42_kinds.specs.declared.entry.Act.TheVariants.{Swap};
 ghost use Rattle.k42_kinds.specs.declared.entry.To.TheVariants as tos;
-ghost use Rattle.k42_kinds.specs.declared.operation.LayoutName.TheVariants.{Shared};
 ghost use Rattle.k42_kinds.specs.Objects.{directory_object};
 ghost use Rattle.co_directory.specs.Directories.{IsOneMap, shared};
 ghost use Rattle.co_directory.specs.SharedLaws.{shared_steps, shared_steps_all};
 
 use crate::indexed::{IndexedNames, step_indexed};
 use k42_kinds::{
-    Act, DirectoryState, Kind, Layout, LayoutName, Op, Reach, Reply, To, step_directory,
+    Act, DirectoryState, Kind, KindName, Layout, Op, Reach, Reply, To, belongs_to, step_directory,
 };
 use k42_memory::Memory;
 use k42_shapes::Shape;
@@ -32,6 +31,10 @@ impl Kind for SharedDirectory {
 
     fn empty(&self, alloc: Global) -> DirectoryState {
         DirectoryState::new(alloc)
+    }
+
+    fn takes(&self, op: &Op) -> bool {
+        belongs_to(op, KindName::Directory)
     }
 
     fn step(&self, _alloc: Global, state: &mut DirectoryState, op: &Op) -> Result<Reply, Memory> {
@@ -56,7 +59,9 @@ impl Layout for SharedDirectory {
 
     ghost admitted = { λ _ state. state };
 
-    ghost act_of = { λ _. Swap (tos.Layout Shared) };
+    ghost act_of = { λ _. Swap (tos.Layout 0) };
+
+    ghost leads = { λ _ to. to ≡ tos.Layout 0 };
 
     fn tag(&self) -> u32 {
         0
@@ -71,6 +76,10 @@ impl Layout for SharedDirectory {
     }
 
     fn with_tag(&self, _tag: u32) -> Self {
+        SharedDirectory
+    }
+
+    fn target(&self, _to: To, _present: u32) -> Self {
         SharedDirectory
     }
 
@@ -119,7 +128,7 @@ impl Layout for SharedDirectory {
     }
 
     fn act(&self) -> Act<Op> {
-        Act::Swap(To::Layout(LayoutName::Shared))
+        Act::Swap(To::Layout(0))
     }
 
     ghost steps = { λ _ procs proc maps op known there takes whole. shared_steps procs maps op whole };

@@ -1,10 +1,9 @@
 //! The layout of a directory that keeps a copy for each processor.
-ghost use Rattle.std.specs.Prelude.{◌==◌, refl};
+ghost use Rattle.std.specs.Prelude.{◌≡◌, ◌==◌, refl};
 ghost use Rattle.std.proofs.Common.{arith};
 ghost use Rattle.k42_shapes.specs.Shapes.{shared_and_spread};
 ghost use Rattle.k42_kinds.specs.declared.entry.Act.TheVariants.{Swap};
 ghost use Rattle.k42_kinds.specs.declared.entry.To.TheVariants as tos;
-ghost use Rattle.k42_kinds.specs.declared.operation.LayoutName.TheVariants as layouts;
 ghost use Rattle.k42_kinds.specs.Objects.{directory_object};
 ghost use Rattle.co_directory.specs.Directories.{AreCopies, spread};
 ghost use Rattle.co_directory.specs.SpreadLaws.{spread_steps, spread_steps_all, spread_reaches, spread_stands, spread_begins, spread_imports};
@@ -12,7 +11,7 @@ ghost use Rattle.co_directory.specs.SpreadLaws.{spread_steps, spread_steps_all, 
 use crate::copies::{bind_in_all, copied, copies, unbind_in_all};
 use crate::indexed::reply_with;
 use k42_kinds::{
-    Act, DirectoryState, Kind, Layout, LayoutName, Op, Reach, Reply, To, step_directory,
+    Act, DirectoryState, Kind, KindName, Layout, Op, Reach, Reply, To, belongs_to, step_directory,
 };
 use k42_memory::Memory;
 use k42_shapes::Shape;
@@ -33,6 +32,10 @@ impl Kind for SpreadDirectory {
 
     fn empty(&self, alloc: Global) -> DirectoryState {
         DirectoryState::new(alloc)
+    }
+
+    fn takes(&self, op: &Op) -> bool {
+        belongs_to(op, KindName::Directory)
     }
 
     fn step(&self, _alloc: Global, state: &mut DirectoryState, op: &Op) -> Result<Reply, Memory> {
@@ -57,7 +60,9 @@ impl Layout for SpreadDirectory {
 
     ghost admitted = { λ _ state. state };
 
-    ghost act_of = { λ _. Swap (tos.Layout layouts.Spread) };
+    ghost act_of = { λ _. Swap (tos.Layout 1) };
+
+    ghost leads = { λ _ to. to ≡ tos.Layout 1 };
 
     fn tag(&self) -> u32 {
         1
@@ -72,6 +77,10 @@ impl Layout for SpreadDirectory {
     }
 
     fn with_tag(&self, _tag: u32) -> Self {
+        SpreadDirectory
+    }
+
+    fn target(&self, _to: To, _present: u32) -> Self {
         SpreadDirectory
     }
 
@@ -142,7 +151,7 @@ impl Layout for SpreadDirectory {
     }
 
     fn act(&self) -> Act<Op> {
-        Act::Swap(To::Layout(LayoutName::Spread))
+        Act::Swap(To::Layout(1))
     }
 
     ghost steps = { λ _ procs proc copies op known there takes whole. spread_steps procs proc copies op there whole };

@@ -4,12 +4,13 @@ ghost use Rattle.std.proofs.Common.{arith};
 ghost use Rattle.k42_shapes.specs.Shapes.{shared_and_spread};
 ghost use Rattle.k42_kinds.specs.declared.entry.Act.TheVariants.{Swap};
 ghost use Rattle.k42_kinds.specs.declared.entry.To.TheVariants as tos;
-ghost use Rattle.k42_kinds.specs.declared.operation.LayoutName.TheVariants.{Shared};
 ghost use Rattle.k42_kinds.specs.Objects.{pages_object};
 ghost use Rattle.co_pages.specs.OneMap.{IsAny, IsOneMap, shared};
 ghost use Rattle.co_pages.specs.SharedLaws.{shared_steps, shared_steps_all, shared_stands};
 
-use k42_kinds::{Act, Kind, Layout, LayoutName, Op, PagesState, Reach, Reply, To, step_pages};
+use k42_kinds::{
+    Act, Kind, KindName, Layout, Op, PagesState, Reach, Reply, To, belongs_to, step_pages,
+};
 use k42_memory::Memory;
 use k42_shapes::Shape;
 use std::alloc::Global;
@@ -29,6 +30,10 @@ impl Kind for SharedPages {
 
     fn empty(&self, alloc: Global) -> PagesState {
         PagesState::new(alloc)
+    }
+
+    fn takes(&self, op: &Op) -> bool {
+        belongs_to(op, KindName::Pages)
     }
 
     fn step(&self, _alloc: Global, state: &mut PagesState, op: &Op) -> Result<Reply, Memory> {
@@ -65,7 +70,9 @@ impl Layout for SharedPages {
 
     ghost admitted = { λ _ state. state };
 
-    ghost act_of = { λ _. Swap (tos.Layout Shared) };
+    ghost act_of = { λ _. Swap (tos.Layout 0) };
+
+    ghost leads = { λ _ to. to ≡ tos.Layout 0 };
 
     fn tag(&self) -> u32 {
         0
@@ -80,6 +87,10 @@ impl Layout for SharedPages {
     }
 
     fn with_tag(&self, _tag: u32) -> Self {
+        SharedPages
+    }
+
+    fn target(&self, _to: To, _present: u32) -> Self {
         SharedPages
     }
 
@@ -124,7 +135,7 @@ impl Layout for SharedPages {
     }
 
     fn act(&self) -> Act<Op> {
-        Act::Swap(To::Layout(LayoutName::Shared))
+        Act::Swap(To::Layout(0))
     }
 
     ghost steps = { λ _ procs proc row op known there takes whole. shared_steps procs row op whole };

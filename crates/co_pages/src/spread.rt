@@ -4,7 +4,6 @@ ghost use Rattle.std.proofs.Common.{arith};
 ghost use Rattle.k42_shapes.specs.Shapes.{shared_and_spread};
 ghost use Rattle.k42_kinds.specs.declared.entry.Act.TheVariants.{Swap};
 ghost use Rattle.k42_kinds.specs.declared.entry.To.TheVariants as tos;
-ghost use Rattle.k42_kinds.specs.declared.operation.LayoutName.TheVariants as layouts;
 ghost use Rattle.k42_kinds.specs.Pages as kinds;
 ghost use Rattle.k42_kinds.specs.Objects.{pages_object, found_text};
 ghost use Rattle.k42_kinds.specs.LayoutLaws.{IsWholeRow};
@@ -16,7 +15,8 @@ ghost use Rattle.co_pages.specs.SpreadLaws.{spread_steps, spread_steps_all, spre
 
 use crate::places::Places;
 use k42_kinds::{
-    Act, Kind, Layout, LayoutName, Op, Page, PagesState, Reach, Reply, Text, To, step_pages,
+    Act, Kind, KindName, Layout, Op, Page, PagesState, Reach, Reply, Text, To, belongs_to,
+    step_pages,
 };
 use k42_memory::Memory;
 use k42_shapes::Shape;
@@ -37,6 +37,10 @@ impl Kind for SpreadPages {
 
     fn empty(&self, alloc: Global) -> PagesState {
         PagesState::new(alloc)
+    }
+
+    fn takes(&self, op: &Op) -> bool {
+        belongs_to(op, KindName::Pages)
     }
 
     fn step(&self, _alloc: Global, state: &mut PagesState, op: &Op) -> Result<Reply, Memory> {
@@ -134,7 +138,9 @@ impl Layout for SpreadPages {
 
     ghost admitted = { λ _ state. state };
 
-    ghost act_of = { λ _. Swap (tos.Layout layouts.Spread) };
+    ghost act_of = { λ _. Swap (tos.Layout 1) };
+
+    ghost leads = { λ _ to. to ≡ tos.Layout 1 };
 
     fn tag(&self) -> u32 {
         1
@@ -149,6 +155,10 @@ impl Layout for SpreadPages {
     }
 
     fn with_tag(&self, _tag: u32) -> Self {
+        SpreadPages
+    }
+
+    fn target(&self, _to: To, _present: u32) -> Self {
         SpreadPages
     }
 
@@ -213,7 +223,7 @@ impl Layout for SpreadPages {
     }
 
     fn act(&self) -> Act<Op> {
-        Act::Swap(To::Layout(LayoutName::Spread))
+        Act::Swap(To::Layout(1))
     }
 
     ghost steps = { λ _ procs proc row op known there takes whole. spread_steps procs proc row op there takes whole };

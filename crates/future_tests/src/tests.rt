@@ -1,9 +1,9 @@
 use crate::tests::crews::{Three, closed, counters};
 use crate::tests::polls::{both, stopped, swap_with, swapped, waits};
 use crate::tests::steps::{come_in, go_home, step_to};
+use co_system::{Cause, Swapped};
 use k42_crews::call_once;
-use k42_kinds::{Act, Answer, LayoutName, Op, Reply, To};
-use k42_runtime::{Cause, Swapped};
+use k42_kinds::{Act, Answer, Op, Reply, To};
 
 mod crews;
 mod polls;
@@ -49,7 +49,7 @@ fn a_swap_by_a_future_is_a_swap(rt: HostRuntime) {
     let alloc = rt.alloc();
     let (system, crew) = counters(&rt, alloc, 1);
     let Three { zero, one, two } = crew;
-    let spread = To::Layout(LayoutName::Spread);
+    let spread = To::Layout(1);
     let end = swapped(&rt, alloc, &system, one, 0, spread);
     assert!(rt; end.result == Ok(Swapped::Done(1)));
     let history = closed(&rt, alloc, system, zero, end.pass, two);

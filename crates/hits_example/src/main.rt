@@ -1,8 +1,8 @@
 //! Two threads count hits, and a third has the counter gathered in one place meanwhile.
 #![tactic(auto)]
 
+use co_system::{Keep, KindName, LayoutName, Memory, Op, Pass, Plan, System, kept_as};
 use k42_crews::{Work, call_once, close, start, swap_once, work_all};
-use k42_runtime::{Keep, KindName, LayoutName, Memory, ObjectPlan, Op, Pass, Plan, System};
 use std::alloc::Global;
 use std::process::ExitCode;
 use std::sync::Wait;
@@ -23,7 +23,8 @@ impl Work for Hits {
         pass: &mut Pass,
     ) -> Result<(), Memory> {
         if pass.caller() == 0 {
-            swap_once(rt, alloc, system, pass, HITS, LayoutName::Shared).map_err(|_| Memory)?;
+            let shared = LayoutName::Shared.number();
+            swap_once(rt, alloc, system, pass, HITS, shared).map_err(|_| Memory)?;
         } else {
             // No pass is worn so soon.
             call_once(rt, alloc, system, pass, HITS, Op::Add(1)).map_err(|_| Memory)?;
@@ -35,12 +36,7 @@ impl Work for Hits {
 
 /// How many entries the history of three passes over one counter has.
 fn run<R: Threads + Wait + Sync>(rt: &R, alloc: Global) -> Result<usize, Memory> {
-    let objects = vec![in alloc;
-        ObjectPlan {
-            kind: KindName::Counter,
-            layout: LayoutName::Spread
-        },
-    ]?;
+    let objects = vec![in alloc; kept_as(KindName::Counter, LayoutName::Spread)]?;
     let processors = vec![in alloc; 0u32, 0u32, 1u32]?;
     let Ok(plan) = Plan::new(2, objects, processors, Keep::All) else {
         return Ok(0);

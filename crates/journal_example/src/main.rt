@@ -2,11 +2,11 @@
 //! the system goes on. What is written is one record, that of `examples/journal.k42`.
 #![tactic(auto)]
 
-use k42_crews::{Work, call_once, end, section, start, swap_once, work_all};
-use k42_runtime::{
-    Act, Answer, Entry, Keep, KindName, LayoutName, Memory, ObjectPlan, Op, Pass, Plan, Reply,
-    System, To,
+use co_system::{
+    Act, Answer, Entry, Keep, KindName, LayoutName, Memory, Op, Pass, Plan, Reply, System, To,
+    kept_as,
 };
+use k42_crews::{Work, call_once, end, section, start, swap_once, work_all};
 use std::alloc::Global;
 use std::fmt;
 use std::process::ExitCode;
@@ -19,11 +19,21 @@ const HITS: u32 = 0;
 /// The lines of the script that the callers answer, in their order.
 const LINES: [[u32; 3]; 2] = [[5, 6, 7], [9, 10, 11]];
 
+/// What a caller does in its turn.
+#[derive(Clone, Copy)]
+enum Deed {
+    Call(Op),
+    /// Has the counter gathered in one place.
+    Gather,
+    /// Has it spread over the processors.
+    Spread,
+}
+
 /// Which caller does what in the next turn.
 #[derive(Drop)]
 struct Turn {
     caller: u32,
-    act: Act<Op>,
+    deed: Deed,
 }
 
 impl Work for Turn {
@@ -39,14 +49,18 @@ impl Work for Turn {
             return Ok(());
         }
         // No pass is worn so soon.
-        match self.act {
-            Act::Call(op) => {
+        match self.deed {
+            Deed::Call(op) => {
                 call_once(rt, alloc, system, pass, HITS, op).map_err(|_| Memory)?;
             }
-            Act::Swap(To::Layout(layout)) => {
-                swap_once(rt, alloc, system, pass, HITS, layout).map_err(|_| Memory)?;
+            Deed::Gather => {
+                let shared = LayoutName::Shared.number();
+                swap_once(rt, alloc, system, pass, HITS, shared).map_err(|_| Memory)?;
             }
-            _ => {}
+            Deed::Spread => {
+                let spread = LayoutName::Spread.number();
+                swap_once(rt, alloc, system, pass, HITS, spread).map_err(|_| Memory)?;
+            }
         }
         Ok(())
     }
@@ -54,21 +68,19 @@ impl Work for Turn {
 
 /// What the callers do, one after the other.
 fn turns() -> [Turn; 6] {
-    let spread = To::Layout(LayoutName::Spread);
-    let shared = To::Layout(LayoutName::Shared);
     [
-        Turn::of(0, Act::Call(Op::Add(5))),
-        Turn::of(1, Act::Call(Op::Add(2))),
-        Turn::of(0, Act::Swap(spread)),
-        Turn::of(1, Act::Call(Op::Add(3))),
-        Turn::of(0, Act::Call(Op::Get)),
-        Turn::of(1, Act::Swap(shared)),
+        Turn::of(0, Deed::Call(Op::Add(5))),
+        Turn::of(1, Deed::Call(Op::Add(2))),
+        Turn::of(0, Deed::Spread),
+        Turn::of(1, Deed::Call(Op::Add(3))),
+        Turn::of(0, Deed::Call(Op::Get)),
+        Turn::of(1, Deed::Gather),
     ]
 }
 
 impl Turn {
-    fn of(caller: u32, act: Act<Op>) -> Turn {
-        Turn { caller, act }
+    fn of(caller: u32, deed: Deed) -> Turn {
+        Turn { caller, deed }
     }
 }
 
@@ -98,7 +110,7 @@ impl fmt::Display for Line {
         write!(f, "{stamp} {worker} {number} ")?;
         match self.0.act {
             Act::Call(Op::Add(amount)) => write!(f, "hits add {amount}")?,
-            Act::Swap(To::Layout(LayoutName::Spread)) => write!(f, "swap hits spread")?,
+            Act::Swap(To::Layout(1)) => write!(f, "swap hits spread")?,
             Act::Swap(_) => write!(f, "swap hits shared")?,
             Act::Call(_) => write!(f, "hits get")?,
         }
@@ -113,12 +125,7 @@ impl fmt::Display for Line {
 
 /// One counter under two callers, each on a processor of its own.
 fn plan(alloc: Global) -> Result<Option<Plan>, Memory> {
-    let objects = vec![in alloc;
-        ObjectPlan {
-            kind: KindName::Counter,
-            layout: LayoutName::Shared
-        },
-    ]?;
+    let objects = vec![in alloc; kept_as(KindName::Counter, LayoutName::Shared)]?;
     let processors = vec![in alloc; 0u32, 1u32]?;
     Ok(Plan::new(2, objects, processors, Keep::Sections).ok())
 }

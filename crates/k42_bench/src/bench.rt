@@ -1,15 +1,15 @@
 //! How the library is used: a system is started, its passes call and swap on threads, and it is closed.
-ghost use Rattle.std.specs.Prelude.{◌≡◌, IfOk, IfSome};
+ghost use Rattle.std.specs.Prelude.{◌≡◌, ◌<◌, IfOk, IfSome};
 ghost use Rattle.k42_board.specs.declared.keep.Keep.TheVariants.{All};
 ghost use Rattle.k42_crews.specs.Ready.{IsFree, IsIn, AreFree, StaysFree};
 ghost use Rattle.k42_bench.specs.Staying.{StaysIn};
 
 use crate::load::{Load, Round, size_due, size_of};
+use co_system::{History, Keep, NoCall, NoSwap, Pass, Plan, System, kept_as};
 use k42_crews::{Work, call_once, close, end, start, work_all};
 use k42_kinds::{Answer, KindName, LayoutName, Reply};
 use k42_limits::LAST_INCARNATION;
 use k42_memory::Memory;
-use k42_runtime::{History, Keep, NoCall, NoSwap, ObjectPlan, Pass, Plan, System};
 use std::alloc::Global;
 use std::sync::Wait;
 use std::thread::Threads;
@@ -134,6 +134,16 @@ fn call_in_blocks<R: Wait>(
     Ok(())
 }
 
+/// To which layout the swap of this number leads: to the other one, and then back.
+fn layout_after(load: &Load, number: u32) -> u8
+    ensures { result < 2 }
+{
+    match (load.layout, number % 2) {
+        (LayoutName::Shared, 0) | (LayoutName::Spread, 1) => LayoutName::Spread.number(),
+        _ => LayoutName::Shared.number(),
+    }
+}
+
 /// Swaps so often, to the other layout and back. A pass that is worn swaps no more.
 fn swap_often<R: Wait>(
     rt: &R,
@@ -149,11 +159,7 @@ fn swap_often<R: Wait>(
         if system.objects() == 0 {
             return Ok(());
         }
-        let to = match (load.layout, number % 2) {
-            (LayoutName::Shared, 0) | (LayoutName::Spread, 1) => LayoutName::Spread,
-            _ => LayoutName::Shared,
-        };
-        match system.swap(rt, alloc, pass, 0, to) {
+        match system.swap(rt, alloc, pass, 0, layout_after(load, number)) {
             Ok(_) => (),
             Err(NoSwap::Memory) => return Err(Memory),
             Err(NoSwap::Worn) => return Ok(()),
@@ -203,12 +209,7 @@ fn told_by(alloc: Global, history: &History, entries: usize) -> Result<Done, Mem
 fn plan_of(alloc: Global, load: &Load) -> Result<Option<Plan>, Memory>
     ensures { IfOk result (λ made. IfSome made (λ plan. plan.keep ≡ load.now.keep)) }
 {
-    let objects = vec![in alloc;
-        ObjectPlan {
-            kind: load.kind,
-            layout: load.layout
-        },
-    ]?;
+    let objects = vec![in alloc; kept_as(load.kind, load.layout)]?;
     let mut callers = Vec::new(alloc);
     for caller in 0..load.threads {
         callers.push(caller)?;

@@ -1,7 +1,7 @@
 //! What is asked, and how often.
+use co_system::Keep;
 use k42_kinds::{KindName, LayoutName, Name, Op, Text};
 use k42_memory::Memory;
-use k42_runtime::Keep;
 use std::alloc::Global;
 
 /// After so many calls a caller asks the same again.

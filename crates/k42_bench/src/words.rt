@@ -1,7 +1,7 @@
 //! The words of the command line.
 use crate::load::{Load, Ops};
+use co_system::Keep;
 use k42_kinds::{KindName, LayoutName};
-use k42_runtime::Keep;
 
 /// The calls of an activity under `block`.
 const BLOCK: u32 = 16;

@@ -76,7 +76,7 @@ pub record KnowsRows {P O R : Type 0} (s : Phases) (v : PassView P O R) : Type 0
 
 pub record KnowsPhases {P O R : Type 0} (s : Phases) (v : PassView P O R) : Type 0 where
   pub visitor : visitor_at s v.number ≡ v.visitor
-  -- which layouts each object has
+  -- which shapes the live layouts of each object have
   pub shapes : (o : ℕ) → shapes_at v o ≡ (object_at s o).shapes
   -- the layout that it has learned is that of the row which it is inside
   pub layout :

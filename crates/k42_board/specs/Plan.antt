@@ -4,6 +4,7 @@ use Rattle.k42_shapes.specs.declared.shape.Shape.{Shape}
 use Rattle.k42_kinds.specs.OneThread.{OneThread}
 use Rattle.k42_kinds.specs.Rows.{Ways}
 use Rattle.k42_kinds.specs.declared.entry.Act.{Act}
+use Rattle.k42_kinds.specs.declared.entry.To.{To}
 use Rattle.k42_stamp.specs.Layouts.{Layouts, layouts_with}
 
 abbrev pub layouts_on :
@@ -26,6 +27,7 @@ LayoutWords S L P O R = record {
   serves : L → S → Type 0;
   admitted : L → S → S;
   act_of : L → Act O;
+  leads : L → To → Type 0;
 }
 
 -- its layouts on so many processors, and for callers that are on these

@@ -33,7 +33,7 @@ pub record SysSeen (L : Type 0) : Type 0 where
   pub keep : Keep
   pub procs : ℕ
   pub layouts : List L
-  -- those of each object's live layouts
+  -- the shapes of the live layouts of each object
   pub shapes : List (List Shape)
   pub callers : List ℕ
 

@@ -5,7 +5,7 @@ use Rattle.std.proofs.lemmas.Option.{same_Some}
 use Rattle.std.specs.List.Sorted.{IsPermutation}
 use Rattle.std.proofs.lemmas.List.Sorted.{IsPermutation-refl, IsPermutation-sym, IsPermutation-trans, IsPermutation-middle, IsPermutation-map}
 use Rattle.k42_crews.specs.Ready.{AreAll, callers_of}
-use Rattle.k42_runtime.specs.Systems.{SystemSeen, SystemPass}
+use Rattle.co_system.specs.Systems.{SystemSeen, SystemPass}
 use Rattle.k42_c.specs.Closing.{IsAdded}
 use Rattle.k42_c.specs.Gathering.{HasOneMore, NoneIsLost}
 

@@ -5,7 +5,7 @@ use Rattle.std.proofs.lemmas.Option.{same_Some}
 use Rattle.std.specs.Prelude.{IfSome, Ok, Result, insert, is_none, slice_get, slice_index_or}
 use Rattle.std.proofs.lemmas.List.Elements.{Contains-append_right}
 use Rattle.k42_crews.specs.Ready.{IsFree, AreFree}
-use Rattle.k42_runtime.specs.Systems.{IsPlanned, SystemSeen, SystemPass}
+use Rattle.co_system.specs.Systems.{IsPlanned, SystemSeen, SystemPass}
 use Rattle.k42_c.specs.Closing.{AreGiven, IsAdded}
 use Rattle.k42_c.specs.Parking.{HasTriedAgain, HasTriedBy, HasTriedOrNot, IsAt, is_section}
 use Rattle.k42_c.specs.Seats.{IsKept}

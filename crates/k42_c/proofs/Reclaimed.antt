@@ -23,7 +23,8 @@ use Rattle.k42_board.specs.declared.view.PassView.{PassView}
 use Rattle.k42_board.specs.declared.view.StepName.TheVariants as steps
 use Rattle.k42_quiesce.specs.Gracing.{GoesOn, with_role}
 use Rattle.k42_quiesce.specs.Reclaiming.{reclaimed_view}
-use Rattle.k42_runtime.specs.Systems.{SystemSeen, IsAtRest, SystemPart, SystemPass}
+use Rattle.co_system.specs.Systems.{SystemSeen, SystemPart, SystemPass}
+use Rattle.k42_runtime.specs.Systems.{IsAtRest}
 use Rattle.k42_c.specs.Going.{IsReclaiming}
 use Rattle.k42_c.specs.Reclaiming.{HasFoundRole, graces_begun, notes_of}
 use Rattle.k42_kinds.specs.declared.operation.Op.{Op}

@@ -4,8 +4,7 @@ use Rattle.std.specs.List.{list_any}
 use Rattle.std.specs.Prelude.{◌||◌, if◌then◌else◌, Result, Ok, Err, OnOk}
 use Rattle.k42_c.specs.Handles.{is_full, seat_of}
 use Rattle.k42_board.specs.declared.keep.Keep.{Keep}
-use Rattle.k42_runtime.specs.Plans.{PlanSeen, plan_fault}
-use Rattle.k42_runtime.specs.declared.plan.ObjectPlan.{ObjectPlan}
+use Rattle.co_system.specs.Systems.{PlanSeen, SystemLayout, plan_fault}
 use Rattle.k42_runtime.specs.declared.plan.PlanFault.{PlanFault}
 use Rattle.k42_c.specs.Codes.{keep_named}
 use Rattle.k42_c.specs.Starting.{AreGone, objects_coded, plan_by, plan_coded, plan_or}
@@ -46,7 +45,7 @@ callers_or : (fault : Option PlanFault) (made plan : PlanSeen) → plan_or fault
 callers_or (Some fault) made plan is = absurd (cc)
 callers_or None made plan is = let same : made ≡ plan = cc in sym (ap (λ (p : PlanSeen). p.callers) same)
 
-callers_by : (procs : ℕ) (objects : Option (List ObjectPlan)) (homes : List ℕ) (keep : Option Keep) (plan : PlanSeen) → plan_by procs objects homes keep ≡ Ok plan
+callers_by : (procs : ℕ) (objects : Option (List SystemLayout)) (homes : List ℕ) (keep : Option Keep) (plan : PlanSeen) → plan_by procs objects homes keep ≡ Ok plan
     → plan.callers ≡ homes
 callers_by procs (Some objects) homes (Some keep) plan is =
     callers_or (plan_fault procs objects homes) (record { procs = procs; objects = objects; callers = homes; keep = keep }) plan is

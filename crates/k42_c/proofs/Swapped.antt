@@ -3,7 +3,7 @@ use Rattle.std.proofs.Common.{◌≡◌, subst}
 use Rattle.std.specs.Prelude.{Result}
 use Rattle.std.specs.Arc.{arc_value}
 use Rattle.k42_runtime.specs.Swaps.{SwapSeen, HasStepped}
-use Rattle.k42_runtime.specs.Systems.{SystemPass}
+use Rattle.co_system.specs.Systems.{SystemPass}
 use Rattle.k42_runtime.specs.declared.swaps.Step.{Step}
 use Rattle.k42_c.specs.Swapping.{HasSteppedSwap, GoesOnOrRests, told_by}
 use Rattle.k42_c.specs.declared.refusal.Refusal.{Refusal}

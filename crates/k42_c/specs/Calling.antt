@@ -4,9 +4,10 @@ use Rattle.std.specs.Arc.{arc_value}
 use Rattle.k42_kinds.specs.declared.operation.Op.{Op}
 use Rattle.k42_kinds.specs.declared.operation.Reply.{Reply}
 use Rattle.k42_board.specs.declared.view.PassView.{PassView}
-use Rattle.k42_runtime.specs.Calls.{IsAsked, IsWorn, HasCalled, HasNotCalled}
-use Rattle.k42_runtime.specs.Plans.{PlanSeen}
-use Rattle.k42_runtime.specs.Systems.{SystemPart}
+use Rattle.co_system.specs.Systems.{IsAsked}
+use Rattle.k42_runtime.specs.Calls.{IsWorn, HasCalled, HasNotCalled}
+use Rattle.co_system.specs.Systems.{PlanSeen}
+use Rattle.co_system.specs.Systems.{SystemPart}
 use Rattle.k42_c.specs.declared.refusal.Refusal.{Refusal}
 use Rattle.k42_c.specs.declared.refusal.Refusal.TheVariants as refusals
 use Rattle.k42_c.specs.declared.seat.Works.{Works}

@@ -4,8 +4,8 @@ use Rattle.std.specs.Arc.{arc_value}
 use Rattle.k42_board.specs.declared.keep.Keep.TheVariants.{All}
 use Rattle.k42_crews.specs.Ready.{AreFree, AreAll}
 use Rattle.k42_rule.specs.Finishing.{lists_in}
-use Rattle.k42_runtime.specs.Histories.{HistorySeen, IsClosed, HasHistory}
-use Rattle.k42_runtime.specs.Systems.{SystemSeen, SystemPass}
+use Rattle.co_system.specs.Systems.{HistorySeen, IsClosed, HasHistory}
+use Rattle.co_system.specs.Systems.{SystemSeen, SystemPass}
 use Rattle.k42_c.specs.Missing.{missing_in}
 use Rattle.k42_c.specs.Seats.{refusal_of, IsKept}
 use Rattle.k42_c.specs.declared.closing.Given.{Given}

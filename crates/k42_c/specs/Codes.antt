@@ -4,6 +4,7 @@ use Rattle.k42_kinds.specs.declared.operation.KindName.{KindName}
 use Rattle.k42_kinds.specs.declared.operation.KindName.TheVariants.{Counter, Directory, Pages}
 use Rattle.k42_kinds.specs.declared.operation.LayoutName.{LayoutName}
 use Rattle.k42_kinds.specs.declared.operation.LayoutName.TheVariants.{Shared, Spread}
+use Rattle.k42_kinds.specs.Operations.{layout_number}
 use Rattle.k42_kinds.specs.declared.operation.Reply.{Reply}
 use Rattle.k42_kinds.specs.declared.operation.Reply.TheVariants as replies
 use Rattle.k42_kinds.specs.declared.entry.To.{To}
@@ -34,7 +35,7 @@ abbrev pub layout_named : ℕ → Option LayoutName
 layout_named code = if code == 0 then Some Shared else if code == 1 then Some Spread else Nothing
 
 abbrev pub to_layout : Option LayoutName → Option To
-to_layout (Some layout) = Some (Layout layout)
+to_layout (Some layout) = Some (Layout (layout_number layout))
 to_layout Nothing = Nothing
 
 abbrev pub to_named : ℕ → Option To
@@ -68,6 +69,8 @@ refusal_code (refusals.Plan faults.Procs) = PROCESSORS
 refusal_code (refusals.Plan faults.Objects) = OBJECTS
 refusal_code (refusals.Plan faults.Callers) = PASSES
 refusal_code (refusals.Plan (faults.Processor caller)) = PROCESSOR
+-- no plan of these numbers has this fault, since each layout that has a number is live
+refusal_code (refusals.Plan (faults.Dead object)) = ARGUMENT
 
 abbrev pub given_code : Given → ℕ
 given_code (givens.Missing which) = MISSING

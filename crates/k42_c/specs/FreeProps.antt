@@ -10,7 +10,7 @@ use Rattle.k42_kinds.specs.declared.operation.Op.{Op}
 use Rattle.k42_kinds.specs.declared.operation.Reply.{Reply}
 use Rattle.k42_shapes.specs.contracts.shape.Shape as shape
 use Rattle.k42_shapes.specs.declared.shape.Shape.{Shape}
-use Rattle.k42_runtime.specs.Systems.{SystemSeen, SystemPart, SystemPass}
+use Rattle.co_system.specs.Systems.{SystemSeen, SystemPart, SystemPass}
 use Rattle.k42_watch.specs.contracts.watch.WatchPart as watched
 
 pub part_set : IsSet SystemPart

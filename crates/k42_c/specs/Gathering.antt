@@ -3,7 +3,7 @@ use Rattle.std.specs.Prelude.{◌≡◌, ◌⊎◌, ℕ, List, [], ◌∷◌, le
 use Rattle.std.specs.List.{range_with_len}
 use Rattle.std.specs.List.Sorted.{IsPermutation}
 use Rattle.k42_crews.specs.Ready.{callers_of}
-use Rattle.k42_runtime.specs.Systems.{SystemSeen, SystemPass}
+use Rattle.co_system.specs.Systems.{SystemSeen, SystemPass}
 
 -- the pass of one caller more is there
 abbrev pub HasOneMore : List ℕ → List ℕ → Type 0

@@ -1,7 +1,7 @@
 -- Which passes of a system are not at its desk, a bit each: of pass 0 it is 1, of pass 1 it is 2, of pass 2 it is 4.
 use Rattle.std.specs.Prelude.{ℕ, zero, suc, ◌+◌, ◌*◌, ◌==◌, ◌||◌, if◌then◌else◌, Bool, false, List, [], ◌∷◌, length}
 use Rattle.k42_crews.specs.Ready.{callers_of}
-use Rattle.k42_runtime.specs.Systems.{SystemSeen, SystemPass}
+use Rattle.co_system.specs.Systems.{SystemSeen, SystemPass}
 
 abbrev pub is_there : List ℕ → ℕ → Bool
 is_there [] number = false

@@ -7,7 +7,7 @@ use Rattle.k42_kinds.specs.declared.operation.Op.{Op}
 use Rattle.k42_kinds.specs.declared.operation.Reply.{Reply}
 use Rattle.k42_kinds.specs.declared.entry.Entry.{Entry}
 use Rattle.k42_runtime.specs.Sections.{IsSection}
-use Rattle.k42_runtime.specs.Systems.{SystemSeen, SystemPass}
+use Rattle.co_system.specs.Systems.{SystemSeen, SystemPass}
 use Rattle.k42_c.specs.Closing.{AreGiven}
 use Rattle.k42_c.specs.Missing.{missing_in}
 use Rattle.k42_c.specs.Seats.{SharedHome, refusal_of, IsKept}

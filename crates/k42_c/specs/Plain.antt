@@ -1,5 +1,5 @@
 -- Keys, texts and entries as plain structs.
-use Rattle.std.specs.Prelude.{ℕ, List, [], take}
+use Rattle.std.specs.Prelude.{ℕ, ◌==◌, if◌then◌else◌, List, [], take}
 use Rattle.std.specs.Option.{unwrap_or}
 use Rattle.k42_kinds.specs.Padded.{padded}
 use Rattle.k42_kinds.specs.declared.operation.Reply.{Reply}
@@ -10,7 +10,6 @@ use Rattle.k42_kinds.specs.declared.entry.Answer.TheVariants as answers
 use Rattle.k42_kinds.specs.declared.entry.Entry.{Entry}
 use Rattle.k42_kinds.specs.declared.entry.To.{To}
 use Rattle.k42_kinds.specs.declared.entry.To.TheVariants as tos
-use Rattle.k42_kinds.specs.declared.operation.LayoutName.TheVariants as layouts
 use Rattle.k42_kinds.specs.declared.operation.Op.{Op}
 use Rattle.k42_kinds.specs.declared.operation.Op.TheVariants as ops
 use Rattle.k42_kinds.specs.declared.operation.Reply.TheVariants as replies
@@ -51,8 +50,7 @@ op_number ops.Clean = 10
 op_number ops.Seen = 11
 
 abbrev pub to_number : To → ℕ
-to_number (tos.Layout layouts.Shared) = 12
-to_number (tos.Layout layouts.Spread) = 13
+to_number (tos.Layout number) = if number == 0 then 12 else 13
 to_number tos.Dead = 14
 to_number tos.Watch = 15
 to_number tos.Unwatch = 16

@@ -11,7 +11,7 @@ use Rattle.k42_board.specs.declared.view.Taken.{Taken}
 use Rattle.k42_quiesce.specs.Gracing.{IsLeft}
 use Rattle.k42_quiesce.specs.Reclaiming.{Reclaims as Frees, AreRowsFreed}
 use Rattle.k42_runtime.specs.Swaps.{IsRoleElsewhere}
-use Rattle.k42_runtime.specs.Systems.{SystemSeen, SystemPart, SystemPass, layouts_in}
+use Rattle.co_system.specs.Systems.{SystemSeen, SystemPart, SystemPass, layouts_in}
 use Rattle.k42_c.specs.Seats.{SharedHome, refusal_of, IsKept}
 use Rattle.k42_c.specs.declared.reclaiming.Freeing.{Freeing}
 use Rattle.k42_c.specs.declared.reclaiming.Freeing.TheVariants.{Underway, Freed}

@@ -5,10 +5,8 @@ use Rattle.std.specs.List.{list_any}
 use Rattle.k42_board.specs.declared.keep.Keep.{Keep}
 use Rattle.k42_kinds.specs.declared.operation.KindName.{KindName}
 use Rattle.k42_kinds.specs.declared.operation.LayoutName.{LayoutName}
-use Rattle.k42_runtime.specs.Plans.{PlanSeen, plan_fault}
-use Rattle.k42_runtime.specs.Systems as systems
-use Rattle.k42_runtime.specs.Systems.{SystemSeen, SystemPass}
-use Rattle.k42_runtime.specs.declared.plan.ObjectPlan.{ObjectPlan}
+use Rattle.co_system.specs.Systems.{PlanSeen, SystemLayout, SystemPass, kept_as, plan_fault}
+use Rattle.co_system.specs.Systems as systems
 use Rattle.k42_runtime.specs.declared.plan.PlanFault.{PlanFault}
 use Rattle.k42_c.specs.Codes.{keep_named, kind_named, layout_named}
 use Rattle.k42_c.specs.Handles.{is_full, seat_of}
@@ -21,15 +19,15 @@ use Rattle.k42_c.specs.declared.seat.Rests.{Rests as Resting}
 use Rattle.k42_c.specs.declared.seat.Seat.{Seat}
 use Rattle.k42_c.specs.declared.seat.Seat.TheVariants.{Gone, Rests}
 
-abbrev pub object_by : Option KindName → Option LayoutName → Option ObjectPlan
-object_by (Some kind) (Some layout) = Some (record { kind = kind; layout = layout })
+abbrev pub object_by : Option KindName → Option LayoutName → Option SystemLayout
+object_by (Some kind) (Some layout) = Some (kept_as kind layout)
 object_by _ _ = None
 
-abbrev pub object_coded : K42Object → Option ObjectPlan
+abbrev pub object_coded : K42Object → Option SystemLayout
 object_coded object = object_by (kind_named object.kind) (layout_named object.layout)
 
 -- the plans of these objects behind others, if each of them is one
-abbrev pub objects_coded : List ObjectPlan → List K42Object → Option (List ObjectPlan)
+abbrev pub objects_coded : List SystemLayout → List K42Object → Option (List SystemLayout)
 objects_coded plans [] = Some plans
 objects_coded plans (object ∷ objects) =
     option_and_then (λ plan. objects_coded (plans ++ plan ∷ []) objects) (object_coded object)
@@ -39,7 +37,7 @@ abbrev pub plan_or : Option PlanFault → PlanSeen → Result PlanSeen Refusal
 plan_or (Some fault) plan = Err (Plan fault)
 plan_or None plan = Ok plan
 
-abbrev pub plan_by : ℕ → Option (List ObjectPlan) → List ℕ → Option Keep → Result PlanSeen Refusal
+abbrev pub plan_by : ℕ → Option (List SystemLayout) → List ℕ → Option Keep → Result PlanSeen Refusal
 plan_by procs (Some objects) homes (Some keep) =
     plan_or (plan_fault procs objects homes) (record { procs = procs; objects = objects; callers = homes; keep = keep })
 plan_by procs _ homes _ = Err Argument

@@ -3,7 +3,7 @@ use Rattle.std.specs.Prelude.{◌≡◌, ◌<◌, ◌≤◌, ℕ, length, Option
 use Rattle.std.specs.Arc.{arc_value}
 use Rattle.k42_kinds.specs.declared.entry.To.{To}
 use Rattle.k42_runtime.specs.Swaps.{SwapSeen, HasStepped}
-use Rattle.k42_runtime.specs.Systems.{SystemPass}
+use Rattle.co_system.specs.Systems.{SystemPass}
 use Rattle.k42_runtime.specs.declared.swaps.Stage.TheVariants.{New}
 use Rattle.k42_runtime.specs.declared.swaps.Step.{Step}
 use Rattle.k42_runtime.specs.declared.swaps.Step.TheVariants as steps

@@ -1,12 +1,13 @@
 //! The numbers by which C tells statuses, kinds and the like. `k42.h` has the same.
-ghost use Rattle.std.specs.Prelude.{◌≡◌};
+ghost use Rattle.std.specs.Prelude.{◌≡◌, IfSome};
 ghost use Rattle.k42_c.specs.Codes.{keep_named, kind_named, layout_named, given_code, parked_code, progress_code, refusal_code, resumed_code, reply_code, status_of_call, to_named};
+ghost use Rattle.k42_c.specs.Going.{Leads};
 
 use crate::closing::Given;
 use crate::parking::{Parked, Resumed};
 use crate::refusal::Refusal;
 use crate::swapping::Progress;
-use k42_runtime::{Keep, KindName, LayoutName, PlanFault, Reply, Swapped, To};
+use co_system::{Keep, KindName, LayoutName, PlanFault, Reply, Swapped, To};
 
 pub(crate) const DONE: u32 = 0;
 
@@ -85,10 +86,11 @@ pub(crate) fn layout_named(code: u32) -> Option<LayoutName>
 
 /// A swap to the layout of this number.
 pub(crate) fn to_named(code: u32) -> Option<To>
-    ensures { result ≡ to_named code }
+    ensures is { result ≡ to_named code }
+    ensures leads { IfSome result Leads }
 {
     match layout_named(code) {
-        Some(layout) => Some(To::Layout(layout)),
+        Some(layout) => Some(To::Layout(layout.number())),
         None => None,
     }
 }
@@ -136,6 +138,8 @@ pub(crate) fn refusal_code(refusal: Refusal) -> u32
         Refusal::Plan(PlanFault::Objects) => OBJECTS,
         Refusal::Plan(PlanFault::Callers) => PASSES,
         Refusal::Plan(PlanFault::Processor { .. }) => PROCESSOR,
+        // No plan of C's numbers has this fault.
+        Refusal::Plan(PlanFault::Dead { .. }) => ARGUMENT,
     }
 }
 

@@ -16,7 +16,7 @@ use crate::held::K42Pass;
 use crate::holding::{put, take};
 use crate::refusal::Refusal;
 use crate::steps::call;
-use k42_runtime::{Op, Reply};
+use co_system::{Op, Reply};
 use std::alloc::Global;
 
 /// Tries the operation once, if there is one.

@@ -1,8 +1,8 @@
 //! What the handles of one system share.
 ghost use Rattle.std.specs.Prelude.{◌≡◌, ◌≤◌, length};
 
+use co_system::{Pass, System};
 use k42_desk::{Desk, Fits};
-use k42_runtime::{Pass, System};
 
 /// Passes that are given back or parked are those of the system, with nothing under way, and none of them is lost.
 pub struct Crew;

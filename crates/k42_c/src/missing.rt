@@ -3,7 +3,7 @@ ghost use Rattle.std.specs.Prelude.{◌≡◌, ◌<◌, ◌≤◌, ◌+◌, ◌^
 ghost use Rattle.k42_crews.specs.Ready.{callers_of};
 ghost use Rattle.k42_c.specs.Missing.{is_there, missing_from, missing_in};
 
-use k42_runtime::{Pass, System};
+use co_system::{Pass, System};
 
 /// Whether the pass of this number is among them.
 fn is_there(passes: &[Pass], number: u32) -> bool

@@ -8,9 +8,9 @@ use crate::missing::missing_of;
 use crate::refusal::Refusal;
 use crate::seat::{End, Parks, Rests, Seat};
 use crate::steps::refusal_of;
+use co_system::{Keep, Pass, System};
 use k42_crews::{are_all, section};
 use k42_memory::Memory;
-use k42_runtime::{Keep, Pass, System};
 use std::alloc::Global;
 use std::mem::replace;
 

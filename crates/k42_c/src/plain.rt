@@ -4,9 +4,9 @@ ghost use Rattle.k42_c.specs.Plain.{plain_key, plain_progress, plain_text};
 
 use crate::coding::{CELL, INSIDE, LEFT, ROLE};
 use crate::swapping::Progress;
+use co_system::{Cause, Swapped};
 use k42_kinds::{Name, Text};
 use k42_limits::{NAME_BYTES, TEXT_BYTES};
-use k42_runtime::{Cause, Swapped};
 
 /// An object, as it starts, by the numbers of its kind and layout.
 #[repr(C)]

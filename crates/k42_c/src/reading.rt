@@ -8,10 +8,10 @@ use crate::plain::{K42Entry, K42Key, K42Text, plain_key, plain_text};
 use crate::refusal::Refusal;
 use crate::seat::{End, Seat};
 use crate::steps::refusal_of;
-use k42_kinds::{Act, Answer, Entry, LayoutName, Op, Reply, To};
+use co_system::Reader;
+use k42_kinds::{Act, Answer, Entry, Op, Reply, To};
 use k42_limits::{NAME_BYTES, TEXT_BYTES};
 use k42_memory::Memory;
-use k42_runtime::Reader;
 use std::alloc::Global;
 
 fn op_number(op: &Op) -> u32
@@ -38,8 +38,8 @@ fn act_number(act: &Act<Op>) -> u32
 {
     match act {
         Act::Call(op) => op_number(op),
-        Act::Swap(To::Layout(LayoutName::Shared)) => 12,
-        Act::Swap(To::Layout(LayoutName::Spread)) => 13,
+        Act::Swap(To::Layout(0)) => 12,
+        Act::Swap(To::Layout(_)) => 13,
         Act::Swap(To::Dead) => 14,
         Act::Swap(To::Watch) => 15,
         Act::Swap(To::Unwatch) => 16,

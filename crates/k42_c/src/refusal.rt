@@ -1,5 +1,5 @@
 //! Why something was not done.
-use k42_runtime::PlanFault;
+use co_system::PlanFault;
 
 /// Why something was not done. Where it was not, nothing has changed but what is said.
 #[derive(Clone, Copy, Debug, PartialEq, Eq)]

@@ -8,9 +8,9 @@ ghost use Rattle.k42_c.specs.Going.{IsReclaiming, IsSwapping};
 ghost use Rattle.k42_c.specs.GoingProps.{IsReclaiming-prop, IsSwapping-prop};
 
 use crate::home::Home;
+use co_system::{History, Journal, Pass, Swap, System};
 use k42_kinds::{Op, Reply};
 use k42_quiesce::Grace;
-use k42_runtime::{History, Journal, Pass, Swap, System};
 use std::alloc::Global;
 use std::sync::Arc;
 

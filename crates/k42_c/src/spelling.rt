@@ -2,8 +2,8 @@
 ghost use Rattle.std.specs.Prelude.{◌≡◌};
 ghost use Rattle.k42_c.specs.Spelling.{bind_spelled, find_spelled, read_spelled, unbind_spelled, write_spelled};
 
+use co_system::Op;
 use k42_kinds::{Name, Text};
-use k42_runtime::Op;
 
 /// The bind of a key, if the bytes spell one.
 pub(crate) fn bind_spelled(key: &[u8], number: u64) -> Option<Op>

@@ -14,27 +14,27 @@ use crate::home::Home;
 use crate::plain::K42Object;
 use crate::refusal::Refusal;
 use crate::seat::{Rests, Seat};
+use co_system::{Pass, Plan, System, SystemLayout, kept_as};
 use k42_desk::Desk;
 use k42_memory::Memory;
-use k42_runtime::{ObjectPlan, Pass, Plan, System};
 use std::alloc::Global;
 use std::sync::Arc;
 
 /// The object of these numbers, if they are of a kind and of a layout.
-fn object_coded(object: &K42Object) -> Option<ObjectPlan>
+fn object_coded(object: &K42Object) -> Option<SystemLayout>
     ensures { result ≡ object_coded object.now }
 {
     match (kind_named(object.kind), layout_named(object.layout)) {
-        (Some(kind), Some(layout)) => Some(ObjectPlan { kind, layout }),
+        (Some(kind), Some(layout)) => Some(kept_as(kind, layout)),
         _ => None,
     }
 }
 
 /// These plans, and behind them those of the objects, if each of them is one.
 fn objects_coded(
-    mut plans: Vec<ObjectPlan>,
+    mut plans: Vec<SystemLayout>,
     objects: &[K42Object],
-) -> Result<Option<Vec<ObjectPlan>>, Memory>
+) -> Result<Option<Vec<SystemLayout>>, Memory>
     ensures { IfOk result (λ coded. MatchOption coded (objects_coded plans.items objects.now ≡ None)
         (λ all. objects_coded plans.items objects.now ≡ Some all.items)) }
 {

@@ -6,9 +6,9 @@ ghost use Rattle.std.specs.Prelude.{◌≡◌};
 
 use crate::refusal::Refusal;
 use crate::seat::{Rests, Seat, Works};
-use k42_runtime::{Call, CallStep, Op, Reply};
+use co_system::{Attempt, Op, Reply};
 use std::alloc::Global;
-use std::mem::replace;
+use std::mem::{forget, replace};
 
 /// What is told of a seat that may not do what is asked.
 pub(crate) fn refusal_of(seat: &Seat) -> Refusal
@@ -20,17 +20,23 @@ pub(crate) fn refusal_of(seat: &Seat) -> Refusal
     }
 }
 
-/// Puts another seat in place of one that is gone.
+/// Puts a pass at work in place of a seat that is gone, of which nothing is to be dropped. The new seat is made here, after
+/// the step on the table: zeros that lie ready before it would be copied.
 #[inline(always)]
-fn fill(seat: &mut Seat, new: Seat)
+fn fill_with_work(seat: &mut Seat, works: Works)
     requires { seat.old ≡ seats.Gone }
-    ensures { seat.new ≡ new }
+    ensures { seat.new ≡ seats.Works works }
 {
-    // Nothing is to be dropped, which an assignment would look for.
-    match replace(seat, new) {
-        Seat::Gone => (),
-        _ => unreachable!(),
-    }
+    forget(replace(seat, Seat::Works(works)));
+}
+
+/// The same with a pass that rests.
+#[inline(always)]
+fn fill_with_rest(seat: &mut Seat, rests: Rests)
+    requires { seat.old ≡ seats.Gone }
+    ensures { seat.new ≡ seats.Rests rests }
+{
+    forget(replace(seat, Seat::Rests(rests)));
 }
 
 /// Begins an activity.
@@ -45,7 +51,7 @@ pub(crate) fn enter(seat: &mut Seat) -> Result<(), Refusal>
         Seat::Rests(rests) => {
             let Rests { home, mut pass } = rests;
             home.system.enter(&mut pass);
-            fill(seat, Seat::Works(Works { home, pass }));
+            fill_with_work(seat, Works { home, pass });
             Ok(())
         }
         _ => unreachable!(),
@@ -64,7 +70,7 @@ pub(crate) fn leave(seat: &mut Seat) -> Result<(), Refusal>
         Seat::Works(works) => {
             let Works { home, mut pass } = works;
             home.system.leave(&mut pass);
-            fill(seat, Seat::Rests(Rests { home, pass }));
+            fill_with_rest(seat, Rests { home, pass });
             Ok(())
         }
         _ => unreachable!(),
@@ -77,18 +83,20 @@ impl Works {
     fn call(&mut self, alloc: Global, object: u32, op: Op) -> Result<Reply, Refusal>
         ensures { HasServed object op self.old self.new result }
     {
-        if object >= self.home.system.objects() {
-            return Err(Refusal::Object);
+        let system = &self.home.system;
+        if !system.takes(object, &op) {
+            return Err(if object < system.objects() {
+                Refusal::Kind
+            } else {
+                Refusal::Object
+            });
         }
-        if !self.home.system.takes(object, &op) {
-            return Err(Refusal::Kind);
-        }
-        let mut call = Call::new(object, op);
-        match call.step(alloc, &self.home.system, &mut self.pass) {
-            CallStep::Ended(reply) => Ok(reply),
-            CallStep::Again(_) => Err(Refusal::Again),
-            CallStep::Memory => Err(Refusal::Memory),
-            CallStep::Worn => Err(Refusal::Worn),
+        let mut reply = Reply::Done;
+        match system.attempt(alloc, &mut self.pass, object, &op, &mut reply) {
+            Attempt::Again => Err(Refusal::Again),
+            Attempt::Ended => Ok(reply),
+            Attempt::Memory => Err(Refusal::Memory),
+            Attempt::Worn => Err(Refusal::Worn),
         }
     }
 }

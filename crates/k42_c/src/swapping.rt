@@ -1,11 +1,12 @@
 //! Swaps, a step at a time.
-ghost use Rattle.std.specs.Prelude.{Some};
+ghost use Rattle.std.specs.Prelude.{Some, IfSome};
+ghost use Rattle.k42_c.specs.Going.{Leads};
 ghost use Rattle.k42_c.specs.Swapping.{HasGoneOn, HasSteppedSwap, HasSwapped, HasTriedSwap};
 
 use crate::refusal::Refusal;
 use crate::seat::{Rests, Seat, Swaps};
 use crate::steps::refusal_of;
-use k42_runtime::{Cause, Step, Swap, Swapped, To};
+use co_system::{Cause, Step, Swap, Swapped, To};
 use std::alloc::Global;
 use std::mem::replace;
 
@@ -39,6 +40,7 @@ fn step(alloc: Global, swaps: Swaps) -> (Seat, Result<Progress, Refusal>)
 
 /// Begins a swap of the object, if it is there.
 fn begin(alloc: Global, rests: Rests, object: u32, to: To) -> (Seat, Result<Progress, Refusal>)
+    requires { Leads to }
     ensures { HasTriedSwap object to rests result.0 result.1 }
 {
     if object >= rests.home.system.objects() {
@@ -51,6 +53,7 @@ fn begin(alloc: Global, rests: Rests, object: u32, to: To) -> (Seat, Result<Prog
 
 /// The seat once the swap has begun.
 fn begun(alloc: Global, seat: Seat, object: u32, to: To) -> (Seat, Result<Progress, Refusal>)
+    requires { Leads to }
     ensures { HasSwapped object (Some to) seat result.0 result.1 }
 {
     match seat {
@@ -82,6 +85,7 @@ pub(crate) fn swap(
     object: u32,
     to: Option<To>,
 ) -> Result<Progress, Refusal>
+    requires { IfSome to Leads }
     ensures { HasSwapped object to seat.old seat.new result }
 {
     let Some(to) = to else {

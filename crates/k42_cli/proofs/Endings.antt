@@ -13,7 +13,7 @@ use Rattle.k42_input.specs.Dues.{IsCheckDue}
 use Rattle.k42_input.specs.Ends.{Ends, IsQuiet, Delivers}
 use Rattle.k42_input.proofs.CutVerdicts.{check_alike, check_cut, completes_check, check_memory, other_verdict}
 use Rattle.k42_input.proofs.ReadBytes.{ended, told_bytes, told_told}
-use Rattle.k42_runtime.specs.Histories.{HistorySeen}
+use Rattle.co_system.specs.Systems.{HistorySeen}
 use Rattle.k42_cli.specs.Program.{usage_line, IsRunDue, IsDue, HasRead, Says, keeps, CompletesRun, Completes}
 use Rattle.k42_cli.specs.Words.{version_of, reads}
 use Rattle.k42_cli.specs.Outputs.{limit_of, IsShort, IsRecorded, IsWorkedOut, kept_after}

@@ -25,7 +25,7 @@ use Rattle.script_text.specs.declared.script.WorkerLines.{WorkerLines}
 use Rattle.record_text.specs.Histories.{calls_of, HasLine, line_of, record_of}
 use Rattle.record_text.specs.Rules.{IsLawfulRecord}
 use Rattle.record_text.specs.Spelling.{EndsCall, EndsSwap, Ends, HasSpelling, HasGeneration, IsOfVersion, IsVersion, HasText}
-use Rattle.k42_runtime.specs.Histories.{HistorySeen}
+use Rattle.co_system.specs.Systems.{HistorySeen}
 use Rattle.k42_workers.specs.Plans.{plan_due}
 use Rattle.k42_cli.specs.Program.{IsRun}
 

@@ -3,7 +3,7 @@ use Rattle.std.specs.Prelude.{◌≡◌, ℕ, ◌<◌, ⊤, List, Option, Some, 
 use Rattle.script_text.specs.Language.{byte_limit}
 use Rattle.script_text.specs.declared.script.Script.{Script}
 use Rattle.record_text.specs.Histories.{history_text}
-use Rattle.k42_runtime.specs.Histories.{HistorySeen}
+use Rattle.co_system.specs.Systems.{HistorySeen}
 use Rattle.k42_input.specs.Verdicts.{input_limit}
 use Rattle.k42_cli.specs.Program.{IsRun, IsLoadDue, IsDue, HasRead}
 use Rattle.k42_cli.specs.declared.words.Form.{Form}

@@ -10,7 +10,7 @@ use Rattle.record_text.specs.Histories.{record_of, history_text}
 use Rattle.record_text.specs.Rules.{IsLawfulRecord}
 use Rattle.record_text.specs.Spelling.{IsVersion, HasText}
 use Rattle.k42_io.specs.Sink.{Grows, GrowsByFront}
-use Rattle.k42_runtime.specs.Histories.{HistorySeen}
+use Rattle.co_system.specs.Systems.{HistorySeen}
 use Rattle.k42_workers.specs.Plans.{plan_due}
 use Rattle.load_totals.specs.Loads.{summary_due, summary_of, tallied}
 use Rattle.load_totals.specs.declared.totals.Summary.{Summary}

@@ -4,10 +4,10 @@ ghost use Rattle.k42_cli.specs.Program as program;
 ghost use Rattle.k42_cli.specs.Words as asked;
 
 use crate::program::k42_main;
+use co_system::History;
 use k42_input::{Status, words_of};
 use k42_io::{Sink, Source};
 use k42_memory::Memory;
-use k42_runtime::History;
 use k42_workers::Gate;
 use std::alloc::Global;
 use std::env::Args;

@@ -1,8 +1,8 @@
 //! The entries of a history, one after the other.
 
+use co_system::{Entry, Reader};
 use k42_entries::Entries;
 use k42_kinds::{Op, Reply};
-use k42_runtime::{Entry, Reader};
 
 /// Those that were not read yet.
 #[derive(Drop)]

@@ -2,9 +2,9 @@
 ghost use Rattle.std.specs.Prelude.{◌≡◌, None, IfOk};
 ghost use Rattle.k42_input.specs.Dues as dues;
 
+use co_system::History;
 use k42_input::{Status, refusal_line};
 use k42_memory::Memory;
-use k42_runtime::History;
 use script_text::ScriptFault;
 use std::alloc::Global;
 

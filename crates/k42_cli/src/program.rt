@@ -1,7 +1,7 @@
 //! The one call of the program: it reads the input, does the work, and writes the output.
 ghost use Rattle.std.specs.Prelude.{◌≡◌, ◌≢◌, ℕ, ◌-◌, ◌^◌, ◌<◌, ◌≤◌, ◌⊎◌, ◌↔◌, true, false, List, length, take, Option, Some, None, IfOk, OnOk, IsErrOf, map, string_bytes, is_some};
 ghost use Rattle.k42_io.specs.Source.{TakesFirst, LosesAtMost};
-ghost use Rattle.k42_runtime.specs.Histories.{HistorySeen};
+ghost use Rattle.co_system.specs.Systems.{HistorySeen};
 ghost use Rattle.k42_cli.specs.Program as program;
 ghost use Rattle.k42_cli.specs.Words as asked;
 ghost use Rattle.k42_cli.specs.Outputs.{IsWorkedOut, kept_after, limit_of};
@@ -9,10 +9,10 @@ ghost use Rattle.k42_cli.specs.Outputs.{IsWorkedOut, kept_after, limit_of};
 use crate::output::Output;
 use crate::words::{Form, form_of};
 use crate::work::work;
+use co_system::History;
 use k42_input::{Status, WorkEnd, deliver, read_input};
 use k42_io::{Sink, Source};
 use k42_limits::{INPUT_BYTES, SCRIPT_BYTES};
-use k42_runtime::History;
 use k42_workers::Gate;
 use std::alloc::Global;
 use std::sync::Wait;

@@ -2,9 +2,9 @@
 ghost use Rattle.std.specs.Prelude.{◌<◌, None};
 
 use crate::program::k42_main;
+use co_system::History;
 use k42_input::Status;
 use k42_io::{Failed, MemSink, MemSource, QuietSink, QuietSource, Source};
-use k42_runtime::History;
 use k42_workers::{FreeGate, Gate};
 use std::alloc::Global;
 use std::process::Abort;

@@ -7,20 +7,20 @@ use Rattle.std.proofs.lemmas.Bool.Decides.{nat_tests}
 use Rattle.std.proofs.lemmas.List.{length-map}
 use Rattle.std.proofs.lemmas.List.FromFn.{length-range_with_len}
 use Rattle.std.proofs.lemmas.Option.{same_Some}
-use Rattle.k42_board.specs.Seen.{is_at_rest}
+use Rattle.k42_board.specs.Plan.{LayoutWords}
+use Rattle.k42_board.specs.Seen.{PassSeen, is_at_rest}
 use Rattle.k42_board.specs.declared.keep.Keep.TheVariants.{All, Sections}
 use Rattle.k42_board.specs.declared.view.PassView.{PassView}
 use Rattle.k42_runtime.specs.Histories.{MayClose, MayEnd}
 use Rattle.k42_runtime.specs.Plans.{PlanSeen}
 use Rattle.k42_runtime.specs.Swaps.{SwapSeen, IsAtStage, is_over}
-use Rattle.k42_runtime.specs.Systems.{SystemSeen, IsAtRest, IsPlanned, HasStarted, SystemPart, SystemPass}
+use Rattle.k42_runtime.specs.Systems.{SystemSeen, IsAtRest, IsPlanned, HasStarted}
 use Rattle.k42_runtime.specs.declared.swaps.Stage.{Stage}
 use Rattle.k42_runtime.specs.declared.swaps.Stage.TheVariants as stages
 use Rattle.k42_board.specs.Skipping.{greatest_clock}
-use Rattle.k42_kinds.specs.declared.operation.Op.{Op}
-use Rattle.k42_kinds.specs.declared.operation.Reply.{Reply}
 use Rattle.k42_kinds.specs.declared.entry.Entry.{Entry}
 use Rattle.k42_places.specs.Places.{EachPlace}
+use Rattle.k42_shapes.specs.declared.shape.Shape.{Shape}
 use Rattle.k42_places.proofs.EachPlaces.{EachPlace-list_all}
 use Rattle.k42_rule.specs.Finishing.{views_of}
 use Rattle.k42_rule.specs.Sections.{AreEven, given_all, last_section, skipped}
@@ -29,32 +29,32 @@ use Rattle.k42_runtime.specs.Sections.{IsSection, MaySection}
 use Rattle.k42_crews.specs.Ready.{IsFree, AreFree, AreAll, MayGive, callers_of}
 
 -- those in front of the last one are free, and so is that
-pub front_free : (system : SystemSeen) (front back : List SystemPass) → AreFree system (front ++ back) → AreFree system front
+pub front_free : {L P O R : Type 0} (system : SystemSeen L) (front back : List (PassSeen P O R)) → AreFree system (front ++ back) → AreFree system front
 front_free system [] back free = tt
 front_free system (pass ∷ front) back free = (free.0, front_free system front back free.1)
 
-back_free : (system : SystemSeen) (front back : List SystemPass) → AreFree system (front ++ back) → AreFree system back
+back_free : {L P O R : Type 0} (system : SystemSeen L) (front back : List (PassSeen P O R)) → AreFree system (front ++ back) → AreFree system back
 back_free system [] back free = free
 back_free system (pass ∷ front) back free = back_free system front back free.1
 
-some_free : (system : SystemSeen) (last : Option SystemPass) → AreFree system (option_to_list last) → IfSome last (λ pass. IsFree system pass)
+some_free : {L P O R : Type 0} (system : SystemSeen L) (last : Option (PassSeen P O R)) → AreFree system (option_to_list last) → IfSome last (λ pass. IsFree system pass)
 some_free system None free = tt
 some_free system (Some pass) free = free.0
 
-pub last_free : (system : SystemSeen) (front : List SystemPass) (last : Option SystemPass) → AreFree system (front ++ option_to_list last) → IfSome last (λ pass. IsFree system pass)
+pub last_free : {L P O R : Type 0} (system : SystemSeen L) (front : List (PassSeen P O R)) (last : Option (PassSeen P O R)) → AreFree system (front ++ option_to_list last) → IfSome last (λ pass. IsFree system pass)
 last_free system front last free = some_free system last (back_free system front (option_to_list last) free)
 
-all_free : (system : SystemSeen) (passes : List SystemPass) → ((i : ℕ) (pass : SystemPass) → slice_get passes i ≡ Some pass → IsFree system pass) → AreFree system passes
+all_free : {L P O R : Type 0} (system : SystemSeen L) (passes : List (PassSeen P O R)) → ((i : ℕ) (pass : PassSeen P O R) → slice_get passes i ≡ Some pass → IsFree system pass) → AreFree system passes
 all_free system [] each = tt
 all_free system (pass ∷ passes) each = (each 0 pass refl, all_free system passes (λ i other at. each (suc i) other at))
 
-pub started_free : (plan : PlanSeen) (system : SystemSeen) (passes : List SystemPass) → HasStarted plan system passes → AreFree system passes
-started_free plan system passes is =
+pub started_free : {S L P O R : Type 0} (words : LayoutWords S L P O R) (plan : PlanSeen L) (system : SystemSeen L) (passes : List (PassSeen P O R)) → HasStarted words plan system passes → AreFree system passes
+started_free words plan system passes is =
     all_free system passes (λ i pass at.
-    let first = is.each i pass at in record { here = first.here; rests = ap (λ (v : PassView SystemPart Op Reply). is_at_rest v) first.new })
+    let first = is.each i pass at in record { here = first.here; rests = ap (λ (v : PassView _ _ _). is_at_rest v) first.new })
 
 -- passes that are counted up from a first one
-counted_up : (first : ℕ) (passes : List SystemPass) → ((i : ℕ) (pass : SystemPass) → slice_get passes i ≡ Some pass → pass.view.number ≡ first + i)
+counted_up : {P O R : Type 0} (first : ℕ) (passes : List (PassSeen P O R)) → ((i : ℕ) (pass : PassSeen P O R) → slice_get passes i ≡ Some pass → pass.view.number ≡ first + i)
     → callers_of passes ≡ range_with_len first (length passes)
 counted_up first [] each = refl
 counted_up first (pass ∷ passes) each =
@@ -63,33 +63,33 @@ counted_up first (pass ∷ passes) each =
     counted_up (first + 1) passes (λ i other at. each (suc i) other at ∙ (let same : first + suc i ≡ first + 1 + i = omega arith in same)) in
     cc
 
-pub started_all : (plan : PlanSeen) (system : SystemSeen) (passes : List SystemPass) → HasStarted plan system passes → AreAll system passes
-started_all plan system passes is =
-    let up = counted_up 0 passes (λ i pass at. ap (λ (v : PassView SystemPart Op Reply). v.number) (is.each i pass at).new ∙ sym (zero-add i)) in
-    let many : length passes ≡ length system.plan.callers = is.many ∙ sym (ap (λ (p : PlanSeen). length p.callers) is.plan_is) in
+pub started_all : {S L P O R : Type 0} (words : LayoutWords S L P O R) (plan : PlanSeen L) (system : SystemSeen L) (passes : List (PassSeen P O R)) → HasStarted words plan system passes → AreAll system passes
+started_all words plan system passes is =
+    let up = counted_up 0 passes (λ i pass at. ap (λ (v : PassView _ _ _). v.number) (is.each i pass at).new ∙ sym (zero-add i)) in
+    let many : length passes ≡ length system.plan.callers = is.many ∙ sym (ap (λ (p : PlanSeen _). length p.callers) is.plan_is) in
     subst (λ n. callers_of passes ≡ range_with_len 0 n) many up
 
-number_at : (first n : ℕ) (passes : List SystemPass) → callers_of passes ≡ range_with_len first n → (i : ℕ) (pass : SystemPass) → slice_get passes i ≡ Some pass
+number_at : {P O R : Type 0} (first n : ℕ) (passes : List (PassSeen P O R)) → callers_of passes ≡ range_with_len first n → (i : ℕ) (pass : PassSeen P O R) → slice_get passes i ≡ Some pass
     → pass.view.number ≡ first + i
 number_at first n [] all i pass at = absurd (cc)
 number_at first zero (here ∷ passes) all i pass at = absurd (cc)
 number_at first (suc n) (here ∷ passes) all zero pass at =
     let same : here ≡ pass = same_Some here pass at in let number : here.view.number ≡ first = cc in
-    ap (λ (p : SystemPass). p.view.number) (sym same) ∙ number ∙ sym (add-zero first)
+    ap (λ (p : PassSeen _ _ _). p.view.number) (sym same) ∙ number ∙ sym (add-zero first)
 number_at first (suc n) (here ∷ passes) all (suc i) pass at =
     let others : callers_of passes ≡ range_with_len (first + 1) n = cc in
     number_at (first + 1) n passes others i pass at ∙ (let same : first + 1 + i ≡ first + suc i = omega arith in same)
 
-free_at : (system : SystemSeen) (passes : List SystemPass) → AreFree system passes → (i : ℕ) (pass : SystemPass) → slice_get passes i ≡ Some pass → IsFree system pass
+free_at : {L P O R : Type 0} (system : SystemSeen L) (passes : List (PassSeen P O R)) → AreFree system passes → (i : ℕ) (pass : PassSeen P O R) → slice_get passes i ≡ Some pass → IsFree system pass
 free_at system [] free i pass at = absurd (cc)
-free_at system (here ∷ passes) free zero pass at = subst (λ (p : SystemPass). IsFree system p) (same_Some here pass at) free.0
+free_at system (here ∷ passes) free zero pass at = subst (λ (p : PassSeen _ _ _). IsFree system p) (same_Some here pass at) free.0
 free_at system (here ∷ passes) free (suc i) pass at = free_at system passes free.1 i pass at
 
-pub many_all : (system : SystemSeen) (passes : List SystemPass) → AreAll system passes → length passes ≡ length system.plan.callers
+pub many_all : {L P O R : Type 0} (system : SystemSeen L) (passes : List (PassSeen P O R)) → AreAll system passes → length passes ≡ length system.plan.callers
 many_all system passes all =
-    sym (length-map passes (λ (p : SystemPass). p.view.number)) ∙ ap (λ (numbers : List ℕ). length numbers) all ∙ length-range_with_len 0 (length system.plan.callers)
+    sym (length-map passes (λ (p : PassSeen _ _ _). p.view.number)) ∙ ap (λ (numbers : List ℕ). length numbers) all ∙ length-range_with_len 0 (length system.plan.callers)
 
-pub may_end : (system : SystemSeen) (passes : List SystemPass) → AreFree system passes → AreAll system passes → MayEnd system passes
+pub may_end : {L P O R : Type 0} (system : SystemSeen L) (passes : List (PassSeen P O R)) → AreFree system passes → AreAll system passes → MayEnd system passes
 may_end system passes free all = record {
   many = many_all system passes all;
   each = λ i pass at.
@@ -101,14 +101,14 @@ may_end system passes free all = record {
       };
 }
 
-pub may_close : (system : SystemSeen) (passes : List SystemPass) → IsPlanned system → system.plan.keep ≡ All → AreFree system passes
+pub may_close : {L P O R : Type 0} (is_live : L → Bool) (system : SystemSeen L) (passes : List (PassSeen P O R)) → IsPlanned is_live system → system.plan.keep ≡ All → AreFree system passes
     → AreAll system passes → MayClose system passes
-may_close system passes planned keeps free all = record {
+may_close is_live system passes planned keeps free all = record {
   may_end = may_end system passes free all;
   all = λ i pass at. (free_at system passes free i pass at).here.ours.keep ∙ planned.keep ∙ keeps;
 }
 
-pub may_section : (system : SystemSeen) (passes : List SystemPass) → system.sys.keep ≡ Sections → AreFree system passes → AreAll system passes → AreEven passes → MaySection system passes
+pub may_section : {L P O R : Type 0} (system : SystemSeen L) (passes : List (PassSeen P O R)) → system.sys.keep ≡ Sections → AreFree system passes → AreAll system passes → AreEven passes → MaySection system passes
 may_section system passes keeps free all even = record {
   may_end = may_end system passes free all;
   keeps = λ i pass at. (free_at system passes free i pass at).here.ours.keep ∙ keeps;
@@ -116,7 +116,7 @@ may_section system passes keeps free all even = record {
 }
 
 -- once they have given a section
-given_free : (system : SystemSeen) (stamp : ℕ) (passes : List SystemPass) → AreFree system passes → AreFree system (map given_all (map (skipped stamp) passes))
+given_free : {L P O R : Type 0} (system : SystemSeen L) (stamp : ℕ) (passes : List (PassSeen P O R)) → AreFree system passes → AreFree system (map given_all (map (skipped stamp) passes))
 given_free system stamp [] free = tt
 given_free system stamp (pass ∷ passes) free =
     let here = free.0.here in (
@@ -141,12 +141,12 @@ given_free system stamp (pass ∷ passes) free =
       given_free system stamp passes free.1,
     )
 
-given_callers : (stamp : ℕ) (passes : List SystemPass) → callers_of (map given_all (map (skipped stamp) passes)) ≡ callers_of passes
+given_callers : {P O R : Type 0} (stamp : ℕ) (passes : List (PassSeen P O R)) → callers_of (map given_all (map (skipped stamp) passes)) ≡ callers_of passes
 given_callers stamp [] = refl
 given_callers stamp (pass ∷ passes) = ap (λ numbers. pass.view.number ∷ numbers) (given_callers stamp passes)
 
 -- of that only the clocks are others, and what is given
-module _ (system : SystemSeen) (old new : List SystemPass) (section : List (Entry Op Reply)) (is : IsSection old new section) where
+module _ {L P O R : Type 0} (system : SystemSeen L) (old new : List (PassSeen P O R)) (section : List (Entry O R)) (is : IsSection old new section) where
   pub section_free : AreFree system old → AreFree system new
   section_free free = subst (AreFree system) (sym is.passes) (given_free system (greatest_clock (views_of old)) old free)
 
@@ -157,15 +157,15 @@ module _ (system : SystemSeen) (old new : List SystemPass) (section : List (Entr
   give_again again may = record { all = section_callers ∙ may.all; keeps = may.keeps; even = again.even }
 
 -- whether the last section was one of all, place by place
-all_since : (passes : List SystemPass) (since : ℕ) → EachPlace (λ c pass. pass.keep.since ≡ since) passes → list_all (λ pass. pass.keep.since == since) passes ≡ true
+all_since : {P O R : Type 0} (passes : List (PassSeen P O R)) (since : ℕ) → EachPlace (λ c pass. pass.keep.since ≡ since) passes → list_all (λ pass. pass.keep.since == since) passes ≡ true
 all_since [] since each = refl
 all_since (pass ∷ passes) since each =
     let here = each 0 pass refl in let others = all_since passes since (λ i x at. each (suc i) x at) in grind (arith, nat_tests, here, others)
 
-is_since : (pass : SystemPass) (since : ℕ) → (pass.keep.since == since) ≡ true → pass.keep.since ≡ since
+is_since : {P O R : Type 0} (pass : PassSeen P O R) (since : ℕ) → (pass.keep.since == since) ≡ true → pass.keep.since ≡ since
 is_since pass since tested = grind (arith, nat_tests, tested)
 
-pub even_tested : (passes : List SystemPass) (first : SystemPass) (since : ℕ) (even : Bool) → true ≡ ltb 0 (length passes) → first ≡ get_or passes 0 first → since ≡ first.keep.since
+pub even_tested : {P O R : Type 0} (passes : List (PassSeen P O R)) (first : PassSeen P O R) (since : ℕ) (even : Bool) → true ≡ ltb 0 (length passes) → first ≡ get_or passes 0 first → since ≡ first.keep.since
     → even ≡ list_all (λ pass. pass.keep.since == since) passes → (even ≡ true) ↔ AreEven passes
 even_tested passes first since even some is same tests =
     let at = at_first passes first some is in
@@ -175,7 +175,7 @@ even_tested passes first since even some is same tests =
     )
 
 -- a swap that is over has left its pass with nothing under way
-pub over_rests : (stage : Stage) (objects : ℕ) (swap : SwapSeen) (pass : SystemPass) → is_over stage ≡ true → IsAtStage stage objects swap pass → IsAtRest pass.view
+pub over_rests : {P O R : Type 0} (stage : Stage) (objects : List (List Shape)) (swap : SwapSeen) (pass : PassSeen P O R) → is_over stage ≡ true → IsAtStage stage objects swap pass → IsAtRest pass.view
 over_rests stages.Over objects swap pass over at = at
 over_rests stages.New objects swap pass over at = absurd (cc)
 over_rests stages.Waiting objects swap pass over at = absurd (cc)

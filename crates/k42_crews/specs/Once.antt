@@ -3,14 +3,12 @@ use Rattle.std.specs.Prelude.{◌≡◌, ℕ, ◌<◌, [], ◌∷◌, ◌++◌, 
 use Rattle.k42_kinds.specs.declared.entry.Act.TheVariants.{Call}
 use Rattle.k42_kinds.specs.declared.entry.Answer.TheVariants.{Replied}
 use Rattle.k42_kinds.specs.declared.entry.Entry.{Entry}
-use Rattle.k42_kinds.specs.declared.operation.Op.{Op}
-use Rattle.k42_kinds.specs.declared.operation.Reply.{Reply}
 use Rattle.turn_core.specs.Stamps.{last_stamp}
 use Rattle.k42_board.specs.declared.view.PassView.{PassView}
 
 -- It has one entry more, that of the call, which is later than those before it, in the generation of its activity.
-pub record HasCalledOnce {P : Type 0} (object : ℕ) (op : Op) (reply : Reply) (old new : PassView P Op Reply) : Type 0 where
-  pub entry : Entry Op Reply
+pub record HasCalledOnce {P O R : Type 0} (object : ℕ) (op : O) (reply : R) (old new : PassView P O R) : Type 0 where
+  pub entry : Entry O R
   pub generation : ℕ
   pub drawn : new.taker.mine ≡ old.taker.mine ++ entry ∷ []
   pub later : last_stamp old.taker.mine < entry.stamp

@@ -3,10 +3,10 @@ ghost use Rattle.std.specs.Prelude.{◌≡◌, length, ⊤, OnOk};
 ghost use Rattle.std.specs.Thread.{IsSync};
 ghost use Rattle.k42_crews.specs.Crews.{EachBecomes};
 ghost use Rattle.k42_crews.specs.Ready.{IsFree, AreFree, StaysFree, callers_of};
-ghost use Rattle.k42_runtime.specs.Systems.{SystemSeen, SystemPass};
+ghost use Rattle.co_system.specs.Systems.{SystemSeen, SystemPass};
 
+use co_system::{Pass, System};
 use k42_memory::Memory;
-use k42_runtime::{Pass, System};
 use std::alloc::Global;
 use std::sync::Wait;
 use std::thread::{Threads, join_mut};

@@ -10,7 +10,6 @@ use Rattle.k42_kinds.specs.declared.entry.To.TheVariants.{Layout, Dead}
 use Rattle.k42_kinds.specs.declared.entry.Answer.{Answer}
 use Rattle.k42_kinds.specs.declared.entry.Answer.TheVariants.{Replied, Busy, Abandoned}
 use Rattle.k42_kinds.specs.declared.entry.Entry.{Entry}
-use Rattle.k42_kinds.specs.declared.operation.LayoutName.TheVariants.{Shared, Spread}
 use Rattle.k42_kinds.specs.declared.operation.Op.TheVariants.{Add}
 use Rattle.k42_kinds.specs.declared.operation.Reply.TheVariants.{Done}
 use Rattle.phase_core.specs.Event.{Begin, Block, Clear, EndCall, Free, Install, Interpose, Knock, LookUp, Move, Open, StepOut, TakeRoleWith, Turn, Unblock}
@@ -95,7 +94,7 @@ events =
     (AtPhases (Unblock 1), true) ∷
     (AtPhases (Begin 0 0), true) ∷
     (AtCells (Alone 1 (entry 1 1 0 0 0 (Swap Dead) (Abandoned 1) None)), true) ∷
-    (AtCells (Alone 0 (entry 1 0 0 0 0 (Swap (Layout Spread)) (Busy 1) None)), true) ∷
+    (AtCells (Alone 0 (entry 1 0 0 0 0 (Swap (Layout 1)) (Busy 1) None)), true) ∷
     (AtPhases (Open 1), true) ∷
     (AtCells (Lock 1 8), false) ∷
     (AtPhases (Clear 1), true) ∷
@@ -114,7 +113,7 @@ events =
     (AtPhases (TakeRoleWith 2 []), true) ∷
     (AtPhases (Turn (LookAhead 2)), true) ∷
     (AtPhases (Unblock 1), true) ∷
-    (AtCells (Alone 1 (entry 2 1 1 0 0 (Swap (Layout Spread)) (Abandoned 1) None)), true) ∷
+    (AtCells (Alone 1 (entry 2 1 1 0 0 (Swap (Layout 1)) (Abandoned 1) None)), true) ∷
     (AtCells (Lock 1 0), false) ∷
     (AtPhases (Open 1), true) ∷
     (AtPhases (Clear 1), true) ∷
@@ -134,7 +133,7 @@ events =
     (AtPhases (Turn (Enter 0)), true) ∷
     (AtPhases (Begin 3 0), true) ∷
     (AtPhases (Begin 2 0), true) ∷
-    (AtCells (Alone 0 (entry 2 0 1 0 0 (Swap (Layout Spread)) (Busy 1) None)), true) ∷
+    (AtCells (Alone 0 (entry 2 0 1 0 0 (Swap (Layout 1)) (Busy 1) None)), true) ∷
     (AtPhases (Turn (Enter 2)), true) ∷
     (AtPhases (Free 1 0), true) ∷
     (AtPhases (Turn (Enter 3)), true) ∷
@@ -144,8 +143,8 @@ events =
     (AtPhases (LookUp 3 0), true) ∷
     (AtPhases (Block 3), false) ∷
     (AtPhases (Block 1), true) ∷
-    (AtCells (Alone 2 (entry 1 2 0 0 0 (Swap (Layout Spread)) (Busy 1) None)), true) ∷
-    (AtCells (Alone 3 (entry 1 3 0 0 0 (Swap (Layout Shared)) (Busy 1) None)), true) ∷
+    (AtCells (Alone 2 (entry 1 2 0 0 0 (Swap (Layout 1)) (Busy 1) None)), true) ∷
+    (AtCells (Alone 3 (entry 1 3 0 0 0 (Swap (Layout 0)) (Busy 1) None)), true) ∷
     (AtPhases (Knock 3 0), true) ∷
     (AtCells (Lock 2 0), true) ∷
     (AtPhases (LookUp 0 0), true) ∷

@@ -3,7 +3,6 @@ use Rattle.std.proofs.Common.{◌≡◌, ℕ, zero, suc, ◌<◌, true, false, L
 use Rattle.std.proofs.lemmas.Option.{same_Some}
 use Rattle.gen_core.specs.declared.event.GenEvent.TheVariants.{Enter, LookAhead, Flip, Look, GiveRole}
 use Rattle.k42_kinds.specs.Rows.{row_replied}
-use Rattle.k42_kinds.specs.declared.operation.LayoutName.TheVariants.{Shared}
 use Rattle.k42_kinds.specs.declared.operation.Op.{Op}
 use Rattle.k42_kinds.specs.declared.operation.Op.TheVariants.{Add, Get}
 use Rattle.k42_kinds.specs.declared.operation.Reply.{Reply}
@@ -175,7 +174,7 @@ swap = record {
   object = 0;
   incarnation = 0;
   cell = 8;
-  act = Swap (Layout Shared);
+  act = Swap (Layout 0);
   answer = Swapped 1;
   proc = 0;
   generation = None;
@@ -250,7 +249,7 @@ busy number = record {
   object = 0;
   incarnation = 0;
   cell = 0;
-  act = Swap (Layout Shared);
+  act = Swap (Layout 0);
   answer = Busy number;
   proc = 1;
   generation = None;

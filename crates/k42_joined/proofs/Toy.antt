@@ -11,7 +11,6 @@ use Rattle.k42_kinds.specs.declared.entry.Act.TheVariants.{Swap}
 use Rattle.k42_kinds.specs.declared.entry.To.TheVariants.{Layout}
 use Rattle.k42_kinds.specs.declared.entry.Reach.{Reach}
 use Rattle.k42_kinds.specs.declared.entry.Reach.TheVariants.{One, All}
-use Rattle.k42_kinds.specs.declared.operation.LayoutName.TheVariants.{Shared, Spread}
 use Rattle.k42_kinds.specs.declared.operation.Op.{Op}
 use Rattle.k42_kinds.specs.declared.operation.Op.TheVariants.{Add, Get}
 use Rattle.k42_kinds.specs.declared.operation.Reply.{Reply}
@@ -76,8 +75,8 @@ tag one_part = 0
 tag spread = 1
 
 abbrev pub act : Toy → Act Op
-act one_part = Swap (Layout Shared)
-act spread = Swap (Layout Spread)
+act one_part = Swap (Layout 0)
+act spread = Swap (Layout 1)
 
 -- two processors; each caller is on that of its number, and the others on the first
 abbrev pub proc_of : ℕ → ℕ

@@ -7,7 +7,6 @@ use Rattle.std.specs.Cmp.{nat_cmp_total}
 use Rattle.std.proofs.lemmas.List.{nil_from_length}
 use Rattle.k42_kinds.specs.declared.page.Page.{Page}
 use Rattle.k42_kinds.specs.declared.operation.KindName.TheVariants as kinds
-use Rattle.k42_kinds.specs.declared.operation.LayoutName.TheVariants.{Shared, Spread}
 use Rattle.k42_kinds.specs.declared.operation.Op.{Op}
 use Rattle.k42_kinds.specs.declared.operation.Op.TheVariants.{Add, Get, Bind, Find, Unbind, Size, Write, Read, Dirty, Clean}
 use Rattle.k42_kinds.specs.declared.operation.Reply.{Reply}
@@ -25,13 +24,13 @@ use Rattle.k42_kinds.proofs.LegalHistories.{legal_history}
 use Rattle.k42_kinds.proofs.ExampleLines.{line, on}
 
 -- a counter is added to, swapped and read
-swapped_counter : IsLegalHistory (kinds.Counter ∷ []) (line 1 0 0 0 (Call (Add 5)) (Replied replies.Done) ∷ line 2 0 1 0 (Swap (Layout Spread)) (Swapped 1) ∷ line 3 0 2 1 (Call Get) (Replied (replies.Number 5)) ∷ [])
+swapped_counter : IsLegalHistory (kinds.Counter ∷ []) (line 1 0 0 0 (Call (Add 5)) (Replied replies.Done) ∷ line 2 0 1 0 (Swap (Layout 1)) (Swapped 1) ∷ line 3 0 2 1 (Call Get) (Replied (replies.Number 5)) ∷ [])
 swapped_counter = legal_history _ _ (search arith) (search arith)
 
-thrice_swapped : IsLegalHistory (kinds.Counter ∷ []) (line 1 0 0 0 (Swap (Layout Shared)) (Swapped 1) ∷ line 2 0 1 1 (Swap (Layout Shared)) (Swapped 2) ∷ line 3 0 2 2 (Swap (Layout Shared)) (Swapped 3) ∷ [])
+thrice_swapped : IsLegalHistory (kinds.Counter ∷ []) (line 1 0 0 0 (Swap (Layout 0)) (Swapped 1) ∷ line 2 0 1 1 (Swap (Layout 0)) (Swapped 2) ∷ line 3 0 2 2 (Swap (Layout 0)) (Swapped 3) ∷ [])
 thrice_swapped = legal_history _ _ (search arith) (search arith)
 
-destroyed_counter : IsLegalHistory (kinds.Counter ∷ []) (line 1 0 0 0 (Swap Dead) (Swapped 1) ∷ line 2 0 1 1 (Call Get) (Replied replies.Gone) ∷ line 3 0 2 1 (Swap (Layout Shared)) Gone ∷ line 4 0 3 1 (Swap Dead) Gone ∷ [])
+destroyed_counter : IsLegalHistory (kinds.Counter ∷ []) (line 1 0 0 0 (Swap Dead) (Swapped 1) ∷ line 2 0 1 1 (Call Get) (Replied replies.Gone) ∷ line 3 0 2 1 (Swap (Layout 0)) Gone ∷ line 4 0 3 1 (Swap Dead) Gone ∷ [])
 destroyed_counter = legal_history _ _ (search arith) (search arith)
 
 abbrev two_callers : List (Entry Op Reply)
@@ -48,31 +47,31 @@ two_callers_in_order : IsInOrder two_callers 0 asked
 two_callers_in_order = record { same = refl; counted = each_split (λ before entry after. entry.index ≡ length before) [] asked (search arith) }
 
 -- a swap is refused for the sake of another caller's that stands behind it
-refused_first : IsLegalHistory (kinds.Counter ∷ []) (line 1 0 0 0 (Swap (Layout Spread)) (Busy 1) ∷ line 2 1 0 0 (Swap (Layout Spread)) (Swapped 1) ∷ [])
+refused_first : IsLegalHistory (kinds.Counter ∷ []) (line 1 0 0 0 (Swap (Layout 1)) (Busy 1) ∷ line 2 1 0 0 (Swap (Layout 1)) (Swapped 1) ∷ [])
 refused_first = legal_history _ _ (search arith) (search arith)
 
 -- or before it, even if its caller had been in the next implementation already
-refused_last : IsLegalHistory (kinds.Counter ∷ []) (line 1 1 0 0 (Swap (Layout Spread)) (Swapped 1) ∷ line 2 0 0 1 (Call Get) (Replied (replies.Number 0)) ∷ line 3 0 1 0 (Swap (Layout Spread)) (Busy 1) ∷ [])
+refused_last : IsLegalHistory (kinds.Counter ∷ []) (line 1 1 0 0 (Swap (Layout 1)) (Swapped 1) ∷ line 2 0 0 1 (Call Get) (Replied (replies.Number 0)) ∷ line 3 0 1 0 (Swap (Layout 1)) (Busy 1) ∷ [])
 refused_last = legal_history _ _ (search arith) (search arith)
 
 -- or of one that was given up, and given up is no number of its object
-refused_for_an_abandoned : IsLegalHistory (kinds.Counter ∷ []) (line 1 1 0 0 (Swap (Layout Spread)) (Abandoned 1) ∷ line 2 0 0 0 (Swap (Layout Spread)) (Busy 1) ∷ line 3 0 1 0 (Swap Dead) (Swapped 1) ∷ [])
+refused_for_an_abandoned : IsLegalHistory (kinds.Counter ∷ []) (line 1 1 0 0 (Swap (Layout 1)) (Abandoned 1) ∷ line 2 0 0 0 (Swap (Layout 1)) (Busy 1) ∷ line 3 0 1 0 (Swap Dead) (Swapped 1) ∷ [])
 refused_for_an_abandoned = legal_history _ _ (search arith) (search arith)
 
 -- what its caller had seen of another object is no matter
-refused_after_another_object : IsLegalHistory (kinds.Counter ∷ kinds.Counter ∷ []) (on 1 (line 1 0 0 0 (Swap (Layout Spread)) (Swapped 1)) ∷ on 1 (line 2 0 1 1 (Swap (Layout Spread)) (Swapped 2)) ∷ line 3 0 2 0 (Swap (Layout Spread)) (Busy 1) ∷ line 4 1 0 0 (Swap (Layout Spread)) (Swapped 1) ∷ [])
+refused_after_another_object : IsLegalHistory (kinds.Counter ∷ kinds.Counter ∷ []) (on 1 (line 1 0 0 0 (Swap (Layout 1)) (Swapped 1)) ∷ on 1 (line 2 0 1 1 (Swap (Layout 1)) (Swapped 2)) ∷ line 3 0 2 0 (Swap (Layout 1)) (Busy 1) ∷ line 4 1 0 0 (Swap (Layout 1)) (Swapped 1) ∷ [])
 refused_after_another_object = legal_history _ _ (search arith) (search arith)
 
 -- nor what it sees later
-refused_before_another_object : IsLegalHistory (kinds.Counter ∷ kinds.Counter ∷ []) (line 1 1 0 0 (Swap (Layout Spread)) (Swapped 1) ∷ line 2 1 1 1 (Swap (Layout Spread)) (Swapped 2) ∷ line 3 0 0 1 (Swap (Layout Spread)) (Busy 2) ∷ on 1 (line 4 0 1 0 (Call Get) (Replied (replies.Number 0))) ∷ [])
+refused_before_another_object : IsLegalHistory (kinds.Counter ∷ kinds.Counter ∷ []) (line 1 1 0 0 (Swap (Layout 1)) (Swapped 1) ∷ line 2 1 1 1 (Swap (Layout 1)) (Swapped 2) ∷ line 3 0 0 1 (Swap (Layout 1)) (Busy 2) ∷ on 1 (line 4 0 1 0 (Call Get) (Replied (replies.Number 0))) ∷ [])
 refused_before_another_object = legal_history _ _ (search arith) (search arith)
 
 -- whatever came before: the swap before the last incarnation is carried out, and it is the last one
 last_swap : (before : List (Entry Op Reply)) → IsAlive kinds.Counter 0 before → number_of 0 before ≡ 1048574
-    → IsLegal kinds.Counter before (line 1 0 0 1048574 (Swap (Layout Shared)) (Swapped 1048575)) []
+    → IsLegal kinds.Counter before (line 1 0 0 1048574 (Swap (Layout 0)) (Swapped 1048575)) []
 last_swap before alive number = record { next = omega (arith, number); alive = alive; unspent = omega (arith, number); incarnation = omega (arith, number) }
 
-spent_at_the_last : (before : List (Entry Op Reply)) → IsAlive kinds.Counter 0 before → number_of 0 before ≡ 1048575 → IsLegal kinds.Counter before (line 1 0 0 1048575 (Swap (Layout Shared)) Spent) []
+spent_at_the_last : (before : List (Entry Op Reply)) → IsAlive kinds.Counter 0 before → number_of 0 before ≡ 1048575 → IsLegal kinds.Counter before (line 1 0 0 1048575 (Swap (Layout 0)) Spent) []
 spent_at_the_last before alive number = record { alive = alive; spent = omega (arith, number); incarnation = omega (arith, number) }
 
 -- the name `x`

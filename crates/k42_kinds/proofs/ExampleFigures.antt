@@ -1,6 +1,5 @@
 -- What `seen` of object 0 must reply after some histories, which need not be legal.
 use Rattle.std.proofs.Common.{◌≡◌, ◌-◌, ◌^◌, List, [], ◌∷◌, Some, refl}
-use Rattle.k42_kinds.specs.declared.operation.LayoutName.TheVariants.{Spread}
 use Rattle.k42_kinds.specs.declared.operation.Op.{Op}
 use Rattle.k42_kinds.specs.declared.operation.Op.TheVariants.{Add, Seen}
 use Rattle.k42_kinds.specs.declared.operation.Reply.{Reply}
@@ -37,7 +36,7 @@ calls_behind_a_watch = record { told = refl }
 behind_the_last_watch : IsFigure (watch ∷ added ∷ watch ∷ added ∷ []) (Number 1)
 behind_the_last_watch = record { told = refl }
 
-across_swaps : IsFigure (watch ∷ added ∷ line 3 0 2 1 (Swap (Layout Spread)) (Swapped 2) ∷ added ∷ []) (Number 2)
+across_swaps : IsFigure (watch ∷ added ∷ line 3 0 2 1 (Swap (Layout 1)) (Swapped 2) ∷ added ∷ []) (Number 2)
 across_swaps = record { told = refl }
 
 none_behind_an_unwatch : IsFigure (watch ∷ added ∷ line 3 0 2 1 (Swap Unwatch) (Swapped 2) ∷ added ∷ []) None
@@ -69,7 +68,7 @@ asking_counts_not is = cc is.told
 kept_behind_an_unwatch : IsFigure (watch ∷ added ∷ line 3 0 2 1 (Swap Unwatch) (Swapped 2) ∷ []) (Number 1) → ⊥
 kept_behind_an_unwatch is = cc is.told
 
-lost_by_a_swap : IsFigure (watch ∷ added ∷ line 3 0 2 1 (Swap (Layout Spread)) (Swapped 2) ∷ []) (Number 0) → ⊥
+lost_by_a_swap : IsFigure (watch ∷ added ∷ line 3 0 2 1 (Swap (Layout 1)) (Swapped 2) ∷ []) (Number 0) → ⊥
 lost_by_a_swap is = cc is.told
 
 told_of_the_dead : IsFigure (watch ∷ line 2 0 1 1 (Swap Dead) (Swapped 2) ∷ []) (Number 0) → ⊥

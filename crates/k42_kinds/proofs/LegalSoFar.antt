@@ -2,7 +2,6 @@
 use Rattle.std.proofs.Common.{◌≡◌, ◌+◌, List, [], ◌∷◌, length, Option, Some, refl, arith}
 use Rattle.k42_kinds.specs.declared.operation.KindName.{KindName}
 use Rattle.k42_kinds.specs.declared.operation.KindName.TheVariants as kinds
-use Rattle.k42_kinds.specs.declared.operation.LayoutName.TheVariants.{Spread}
 use Rattle.k42_kinds.specs.declared.operation.Op.{Op}
 use Rattle.k42_kinds.specs.declared.operation.Op.TheVariants.{Add, Get}
 use Rattle.k42_kinds.specs.declared.operation.Reply.{Reply}
@@ -46,7 +45,7 @@ legal_so_far object_of declarations history legal = record {
 
 -- the swap that refuses stands nowhere yet
 abbrev refused : List (Entry Op Reply)
-refused = line 1 0 0 0 (Call (Add 5)) (Replied replies.Done) ∷ line 2 0 1 0 (Swap (Layout Spread)) (Busy 1) ∷ []
+refused = line 1 0 0 0 (Call (Add 5)) (Replied replies.Done) ∷ line 2 0 1 0 (Swap (Layout 1)) (Busy 1) ∷ []
 
 refused_so_far : IsLegalSoFar watched_object (kinds.Counter ∷ []) refused
 refused_so_far = record {

@@ -3,7 +3,6 @@ use Rattle.std.proofs.Common.{◌≡◌, ℕ, List, [], ◌∷◌, ◌++◌, Opt
 use Rattle.std.specs.List.{AllByRecursion}
 use Rattle.k42_kinds.specs.declared.operation.KindName.{KindName}
 use Rattle.k42_kinds.specs.declared.operation.KindName.TheVariants as kinds
-use Rattle.k42_kinds.specs.declared.operation.LayoutName.TheVariants.{Spread}
 use Rattle.k42_kinds.specs.declared.operation.Op.{Op}
 use Rattle.k42_kinds.specs.declared.operation.Op.TheVariants.{Add, Get, Size}
 use Rattle.k42_kinds.specs.declared.operation.Reply.{Reply}
@@ -22,7 +21,7 @@ use Rattle.k42_kinds.proofs.ExampleLines.{line, on}
 
 -- the acts that are no calls
 abbrev swap : Act Op
-swap = Swap (Layout Spread)
+swap = Swap (Layout 1)
 
 abbrev destroy : Act Op
 destroy = Swap Dead

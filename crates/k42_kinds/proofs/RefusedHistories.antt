@@ -2,7 +2,6 @@
 use Rattle.std.proofs.Common.{◌≡◌, ℕ, List, [], ◌∷◌, ◌++◌, refl, arith}
 use Rattle.std.specs.List.{AllByRecursion}
 use Rattle.k42_kinds.specs.declared.operation.KindName.TheVariants.{Counter}
-use Rattle.k42_kinds.specs.declared.operation.LayoutName.TheVariants.{Shared, Spread}
 use Rattle.k42_kinds.specs.declared.operation.Op.{Op}
 use Rattle.k42_kinds.specs.declared.operation.Op.TheVariants.{Add, Get, Size}
 use Rattle.k42_kinds.specs.declared.operation.Reply.{Reply}
@@ -34,7 +33,7 @@ abbrev added : Entry Op Reply
 added = line 1 0 0 0 (Call (Add 5)) (Replied replies.Done)
 
 abbrev swapped : Entry Op Reply
-swapped = line 2 0 1 0 (Swap (Layout Spread)) (Swapped 1)
+swapped = line 2 0 1 0 (Swap (Layout 1)) (Swapped 1)
 
 wrong_reply : IsRefused (added ∷ swapped ∷ []) (line 3 0 2 1 (Call Get) (Replied (replies.Number 6))) []
 wrong_reply = illegal refl (λ legal. grind arith)
@@ -48,61 +47,61 @@ wrong_stamp = record { refused = λ history. let stamp = history.numbered (added
 call_answered_as_swap : IsRefused [] (line 1 0 0 0 (Call Get) (Swapped 1)) []
 call_answered_as_swap = illegal refl (λ legal. grind arith)
 
-swap_answered_as_call : IsRefused [] (line 1 0 0 0 (Swap (Layout Spread)) (Replied replies.Done)) []
+swap_answered_as_call : IsRefused [] (line 1 0 0 0 (Swap (Layout 1)) (Replied replies.Done)) []
 swap_answered_as_call = illegal refl (λ legal. legal)
 
-skipped_number : IsRefused [] (line 1 0 0 0 (Swap (Layout Spread)) (Swapped 2)) []
+skipped_number : IsRefused [] (line 1 0 0 0 (Swap (Layout 1)) (Swapped 2)) []
 skipped_number = illegal refl (λ legal. grind arith)
 
 -- a caller is not refused for the sake of its own swap, nor of a swap with another number
-no_other_swap : IsRefused (line 1 0 0 0 (Swap (Layout Spread)) (Swapped 1) ∷ []) (line 2 0 1 0 (Swap (Layout Spread)) (Busy 1)) (line 3 1 0 1 (Swap (Layout Spread)) (Swapped 2) ∷ [])
-no_other_swap = no_rival (Layout Spread) 1 refl refl refl (search arith)
+no_other_swap : IsRefused (line 1 0 0 0 (Swap (Layout 1)) (Swapped 1) ∷ []) (line 2 0 1 0 (Swap (Layout 1)) (Busy 1)) (line 3 1 0 1 (Swap (Layout 1)) (Swapped 2) ∷ [])
+no_other_swap = no_rival (Layout 1) 1 refl refl refl (search arith)
 
 -- nor for the sake of a swap of another object
-no_swap_of_the_object : IsRefused (on 1 (line 1 1 0 0 (Swap (Layout Spread)) (Swapped 1)) ∷ []) (line 2 0 0 0 (Swap (Layout Spread)) (Busy 1)) (on 1 (line 3 2 0 1 (Swap (Layout Spread)) (Abandoned 1)) ∷ [])
-no_swap_of_the_object = no_rival (Layout Spread) 1 refl refl refl (search arith)
+no_swap_of_the_object : IsRefused (on 1 (line 1 1 0 0 (Swap (Layout 1)) (Swapped 1)) ∷ []) (line 2 0 0 0 (Swap (Layout 1)) (Busy 1)) (on 1 (line 3 2 0 1 (Swap (Layout 1)) (Abandoned 1)) ∷ [])
+no_swap_of_the_object = no_rival (Layout 1) 1 refl refl refl (search arith)
 
 -- nor of one that was given up under another number, or that it gave up itself
-no_other_abandoned : IsRefused (line 1 0 0 0 (Swap (Layout Spread)) (Abandoned 1) ∷ []) (line 2 0 1 0 (Swap (Layout Spread)) (Busy 1)) (line 3 1 0 1 (Swap (Layout Spread)) (Abandoned 2) ∷ [])
-no_other_abandoned = no_rival (Layout Spread) 1 refl refl refl (search arith)
+no_other_abandoned : IsRefused (line 1 0 0 0 (Swap (Layout 1)) (Abandoned 1) ∷ []) (line 2 0 1 0 (Swap (Layout 1)) (Busy 1)) (line 3 1 0 1 (Swap (Layout 1)) (Abandoned 2) ∷ [])
+no_other_abandoned = no_rival (Layout 1) 1 refl refl refl (search arith)
 
 -- nor if it had been in a later implementation than the one that the swap made
-late_refusal : IsRefused (line 1 1 0 0 (Swap (Layout Spread)) (Swapped 1) ∷ line 2 1 1 1 (Swap (Layout Spread)) (Swapped 2) ∷ line 3 0 0 2 (Call Get) (Replied (replies.Number 0)) ∷ []) (line 4 0 1 0 (Swap (Layout Spread)) (Busy 1)) []
+late_refusal : IsRefused (line 1 1 0 0 (Swap (Layout 1)) (Swapped 1) ∷ line 2 1 1 1 (Swap (Layout 1)) (Swapped 2) ∷ line 3 0 0 2 (Call Get) (Replied (replies.Number 0)) ∷ []) (line 4 0 1 0 (Swap (Layout 1)) (Busy 1)) []
 late_refusal = illegal refl (λ legal. let past = legal.timely.earlier 2 added (omega arith) (record { caller = refl; object = refl }) in grind arith)
 
 -- nor if it had made a later swap itself
-refused_behind_its_own : IsRefused (line 1 1 0 0 (Swap (Layout Spread)) (Swapped 1) ∷ line 2 0 0 1 (Swap (Layout Spread)) (Swapped 2) ∷ []) (line 3 0 1 0 (Swap (Layout Spread)) (Busy 1)) []
+refused_behind_its_own : IsRefused (line 1 1 0 0 (Swap (Layout 1)) (Swapped 1) ∷ line 2 0 0 1 (Swap (Layout 1)) (Swapped 2) ∷ []) (line 3 0 1 0 (Swap (Layout 1)) (Busy 1)) []
 refused_behind_its_own = illegal refl (λ legal. let past = legal.timely.earlier 1 added (omega arith) (record { caller = refl; object = refl }) in grind arith)
 
 -- nor if it goes on in an implementation before the one that the swap was to end
-early_refusal : IsRefused [] (line 1 0 0 2 (Swap (Layout Spread)) (Busy 3)) (line 2 1 0 0 (Swap (Layout Spread)) (Swapped 1) ∷ line 3 0 1 1 (Call Get) (Replied (replies.Number 0)) ∷ line 4 1 1 1 (Swap (Layout Spread)) (Swapped 2) ∷ line 5 1 2 2 (Swap (Layout Spread)) (Swapped 3) ∷ [])
+early_refusal : IsRefused [] (line 1 0 0 2 (Swap (Layout 1)) (Busy 3)) (line 2 1 0 0 (Swap (Layout 1)) (Swapped 1) ∷ line 3 0 1 1 (Call Get) (Replied (replies.Number 0)) ∷ line 4 1 1 1 (Swap (Layout 1)) (Swapped 2) ∷ line 5 1 2 2 (Swap (Layout 1)) (Swapped 3) ∷ [])
 early_refusal = illegal refl (λ legal. let past = legal.timely.later 1 added (omega arith) (record { caller = refl; object = refl }) in grind arith)
 
 -- what is given up bears the number that was to come, which is at least 1
-abandoned_under_a_later_number : IsRefused [] (line 1 0 0 0 (Swap (Layout Spread)) (Abandoned 2)) []
+abandoned_under_a_later_number : IsRefused [] (line 1 0 0 0 (Swap (Layout 1)) (Abandoned 2)) []
 abandoned_under_a_later_number = illegal refl (λ legal. grind arith)
 
-abandoned_under_no_number : IsRefused [] (line 1 0 0 0 (Swap (Layout Spread)) (Abandoned 0)) []
+abandoned_under_no_number : IsRefused [] (line 1 0 0 0 (Swap (Layout 1)) (Abandoned 0)) []
 abandoned_under_no_number = illegal refl (λ legal. grind arith)
 
 -- and its caller had not been past it
-late_abandoned : IsRefused (line 1 1 0 0 (Swap (Layout Spread)) (Swapped 1) ∷ line 2 1 1 1 (Swap (Layout Spread)) (Swapped 2) ∷ line 3 0 0 2 (Call Get) (Replied (replies.Number 0)) ∷ []) (line 4 0 1 0 (Swap (Layout Spread)) (Abandoned 1)) []
+late_abandoned : IsRefused (line 1 1 0 0 (Swap (Layout 1)) (Swapped 1) ∷ line 2 1 1 1 (Swap (Layout 1)) (Swapped 2) ∷ line 3 0 0 2 (Call Get) (Replied (replies.Number 0)) ∷ []) (line 4 0 1 0 (Swap (Layout 1)) (Abandoned 1)) []
 late_abandoned = illegal refl (λ legal. let past = legal.earlier 2 added (omega arith) (record { caller = refl; object = refl }) in grind arith)
 
-spent_too_early : IsRefused [] (line 1 0 0 0 (Swap (Layout Shared)) Spent) []
+spent_too_early : IsRefused [] (line 1 0 0 0 (Swap (Layout 0)) Spent) []
 spent_too_early = illegal refl (λ legal. grind arith)
 
 -- whatever came before: no swap goes past the last incarnation, and none is spent before it
-swap_past_the_last : (before : List (Entry Op Reply)) (number : ℕ) → number_of 0 before ≡ 1048575 → IsLegal Counter before (line 1 0 0 1048575 (Swap (Layout Shared)) (Swapped number)) [] → ⊥
+swap_past_the_last : (before : List (Entry Op Reply)) (number : ℕ) → number_of 0 before ≡ 1048575 → IsLegal Counter before (line 1 0 0 1048575 (Swap (Layout 0)) (Swapped number)) [] → ⊥
 swap_past_the_last before number counted legal = omega (arith, counted, legal.unspent)
 
-spent_before_the_last : (before : List (Entry Op Reply)) → number_of 0 before ≡ 1048574 → IsLegal Counter before (line 1 0 0 1048574 (Swap (Layout Shared)) Spent) [] → ⊥
+spent_before_the_last : (before : List (Entry Op Reply)) → number_of 0 before ≡ 1048574 → IsLegal Counter before (line 1 0 0 1048574 (Swap (Layout 0)) Spent) [] → ⊥
 spent_before_the_last before counted legal = omega (arith, counted, legal.spent)
 
-gone_while_alive : IsRefused [] (line 1 0 0 0 (Swap (Layout Shared)) Gone) []
+gone_while_alive : IsRefused [] (line 1 0 0 0 (Swap (Layout 0)) Gone) []
 gone_while_alive = illegal refl (λ legal. grind arith)
 
-swapped_when_dead : IsRefused (line 1 0 0 0 (Swap Dead) (Swapped 1) ∷ []) (line 2 0 1 1 (Swap (Layout Shared)) (Swapped 2)) []
+swapped_when_dead : IsRefused (line 1 0 0 0 (Swap Dead) (Swapped 1) ∷ []) (line 2 0 1 1 (Swap (Layout 0)) (Swapped 2)) []
 swapped_when_dead = illegal refl (λ legal. grind arith)
 
 -- a dead object is never spent, however many swaps it went through

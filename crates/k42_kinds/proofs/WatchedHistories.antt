@@ -3,7 +3,6 @@ use Rattle.std.proofs.Common.{◌≡◌, ◌+◌, List, [], ◌∷◌, ◌++◌,
 use Rattle.std.proofs.lemmas.Option.{same_Some}
 use Rattle.k42_kinds.specs.declared.operation.KindName.{KindName}
 use Rattle.k42_kinds.specs.declared.operation.KindName.TheVariants.{Counter}
-use Rattle.k42_kinds.specs.declared.operation.LayoutName.TheVariants.{Spread}
 use Rattle.k42_kinds.specs.declared.operation.Op.{Op}
 use Rattle.k42_kinds.specs.declared.operation.Op.TheVariants.{Add, Get, Drain, Seen}
 use Rattle.k42_kinds.specs.declared.operation.Reply.{Reply}
@@ -31,7 +30,7 @@ legal history numbered each = record {
 abbrev watched_between : List (Entry Op Reply)
 watched_between =
     line 1 0 0 0 (Call (Add 5)) (Replied replies.Done) ∷ line 2 0 1 0 (Swap Watch) (Swapped 1) ∷ line 3 0 2 1 (Call (Add 1)) (Replied replies.Done) ∷ line 4 0 3 1 (Call Get) (Replied (replies.Number 6))
-    ∷ line 5 0 4 1 (Call Seen) (Replied (replies.Number 2)) ∷ line 6 0 5 1 (Swap (Layout Spread)) (Swapped 2) ∷ line 7 0 6 2 (Call Seen) (Replied (replies.Number 2))
+    ∷ line 5 0 4 1 (Call Seen) (Replied (replies.Number 2)) ∷ line 6 0 5 1 (Swap (Layout 1)) (Swapped 2) ∷ line 7 0 6 2 (Call Seen) (Replied (replies.Number 2))
     ∷ line 8 0 7 2 (Swap Unwatch) (Swapped 3) ∷ line 9 0 8 3 (Call Seen) (Replied replies.None) ∷ []
 
 watched_between_legal : IsWatchedHistory watched_between
@@ -102,7 +101,7 @@ calls_before_are_not_counted = illegal refl (λ legal. grind arith)
 no_count_without_a_watch : IsRefused [] (line 1 0 0 0 (Call Seen) (Replied (replies.Number 0)))
 no_count_without_a_watch = illegal refl (λ legal. grind arith)
 
-a_swap_keeps_the_count : IsRefused (watch ∷ added ∷ line 3 0 2 1 (Swap (Layout Spread)) (Swapped 2) ∷ []) (line 4 0 3 2 (Call Seen) (Replied (replies.Number 0)))
+a_swap_keeps_the_count : IsRefused (watch ∷ added ∷ line 3 0 2 1 (Swap (Layout 1)) (Swapped 2) ∷ []) (line 4 0 3 2 (Call Seen) (Replied (replies.Number 0)))
 a_swap_keeps_the_count = illegal refl (λ legal. grind arith)
 
 an_unwatch_ends_it : IsRefused (watch ∷ added ∷ line 3 0 2 1 (Swap Unwatch) (Swapped 2) ∷ []) (line 4 0 3 2 (Call Seen) (Replied (replies.Number 1)))

@@ -2,7 +2,6 @@
 use Rattle.std.specs.Prelude.{◌≡◌, ℕ, ◌+◌, ◌-◌, Bool, true, false, ◌&&◌, ◌==◌, if◌then◌else◌, List, ◌∷◌, ◌++◌, length, filter, map, fold, count_by, Option, Some, None, slice_index_or}
 use Rattle.std.specs.List.{filter_map}
 use Rattle.k42_kinds.specs.declared.operation.KindName.{KindName}
-use Rattle.k42_kinds.specs.declared.operation.LayoutName.{LayoutName}
 use Rattle.k42_kinds.specs.declared.states.AnyState.{AnyState}
 use Rattle.k42_kinds.specs.declared.watch.WatchState.{WatchState}
 use Rattle.k42_kinds.specs.declared.operation.Op.{Op}
@@ -85,8 +84,8 @@ abbrev pub implementations_of : {O R : Type 0} → ℕ → List (Entry O R) → 
 implementations_of object history =
     filter_map (λ entry. asked_for entry.act) (filter (is_carried_out_on object) history)
 
--- the object is kept as the last of them asked, and as it was declared where there is none
-abbrev pub implementation_of : {O R : Type 0} → LayoutName → ℕ → List (Entry O R) → To
+-- the object is kept as the last of them asked, and in the layout that was declared where there is none
+abbrev pub implementation_of : {O R : Type 0} → ℕ → ℕ → List (Entry O R) → To
 implementation_of declared object history =
     let all = implementations_of object history in
     slice_index_or all (length all - 1) (Layout declared)

@@ -1,14 +1,16 @@
 -- What a layout owes the object of one thread.
 use Rattle.std.specs.Prelude.{◌≡◌, ℕ, ◌<◌, List, length, Some}
 use Rattle.k42_kinds.specs.declared.entry.Act.{Act}
+use Rattle.k42_kinds.specs.declared.entry.Act.TheVariants.{Swap}
 use Rattle.k42_kinds.specs.declared.entry.Answer.TheVariants.{Swapped}
 use Rattle.k42_kinds.specs.declared.entry.Reach.{Reach}
+use Rattle.k42_kinds.specs.declared.entry.To.{To}
 use Rattle.k42_kinds.specs.declared.entry.Reach.TheVariants.{One}
 use Rattle.k42_shapes.specs.declared.shape.Shape.{Shape}
 use Rattle.k42_kinds.specs.OneThread.{OneThread}
 use Rattle.k42_kinds.specs.Histories.{state_moved}
 use Rattle.k42_kinds.specs.Rows.{Ways, part_at, row_moved, row_replied, empty_row}
-use Rattle.k42_shapes.specs.Shapes.{cells_of, IsLiveTag, shape_at}
+use Rattle.k42_shapes.specs.Shapes.{cells_of, IsKnownTag, IsLiveTag, shape_at}
 
 -- an operation at these cells of the row is the step of the object, and leaves the row whole
 pub record StepsRow
@@ -59,6 +61,13 @@ pub record Agree
 pub record IsTagged {S O R : Type 0} (object old : OneThread S O R) (tag wanted : ℕ) : Type 0 where
   pub same : object ≡ old
   pub tagged : tag ≡ wanted
+
+-- a layout of the same object that is asked for by a swap to this
+pub record IsTarget {S O R : Type 0} (object old : OneThread S O R) (shapes : List Shape) (tag : ℕ) (act : Act O) (to : To)
+    : Type 0 where
+  pub same : object ≡ old
+  pub known : IsKnownTag shapes tag
+  pub asked : act ≡ Swap to
 
 -- the part is that of a whole row at the cell that the operation needs
 pub record IsReached

@@ -1,9 +1,16 @@
 -- Which operation belongs to which kind of object.
-use Rattle.std.specs.Prelude.{Bool, true, false, Option, Some, None}
+use Rattle.std.specs.Prelude.{ℕ, Bool, true, false, Option, Some, None}
 use Rattle.k42_kinds.specs.declared.operation.KindName.{KindName}
 use Rattle.k42_kinds.specs.declared.operation.KindName.TheVariants as kinds
+use Rattle.k42_kinds.specs.declared.operation.LayoutName.{LayoutName}
+use Rattle.k42_kinds.specs.declared.operation.LayoutName.TheVariants.{Shared, Spread}
 use Rattle.k42_kinds.specs.declared.operation.Op.{Op}
 use Rattle.k42_kinds.specs.declared.operation.Op.TheVariants.{Add, Get, Drain, Bind, Find, Unbind, Size, Write, Read, Dirty, Clean, Seen}
+
+-- the number of a layout that has a name, among those of its object
+abbrev pub layout_number : LayoutName → ℕ
+layout_number Shared = 0
+layout_number Spread = 1
 
 -- the kind to which the operation belongs; what asks for a count belongs to none of them
 abbrev pub kind_of_op : Op → Option KindName

@@ -1,7 +1,6 @@
 //! The lines of a history: who asked what of which object, and the answer.
 ghost use Rattle.std.specs.Prelude.{◌≡◌, [], ◌∷◌, ◌++◌, OnOk, OnErr};
 
-use crate::operation::LayoutName;
 use k42_memory::Memory;
 
 /// What a caller asked of an object: an operation, or that it be kept in another way.
@@ -11,12 +10,13 @@ pub enum Act<O> {
     Swap(To),
 }
 
-/// How an object is to be kept: in a layout, or dead. A swap to `Dead` is a destroy. One to `Watch`
+/// How an object is to be kept: in the layout of that number, or dead. A swap to `Dead` is a destroy. One to `Watch`
 /// or `Unwatch` keeps the layout, and places a layer that counts calls round it, or takes it away.
 /// All of them are swaps, and counted as such.
 #[derive(Clone, Copy, Debug, PartialEq, Eq)]
 pub enum To {
-    Layout(LayoutName),
+    /// The live layouts of an object are numbered from 0.
+    Layout(u8),
     Dead,
     Watch,
     Unwatch,

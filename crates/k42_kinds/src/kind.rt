@@ -24,6 +24,10 @@ pub trait Kind {
     fn empty(&self, alloc: Global) -> Self::State
         ensures { result ≡ (object self.now).start };
 
+    /// Whether the object takes the operation.
+    fn takes(&self, op: &Self::Op) -> bool
+        ensures { result ≡ (object self.now).takes op.now };
+
     /// One operation. Want of memory leaves the state.
     fn step(
         &self,

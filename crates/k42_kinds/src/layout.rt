@@ -3,14 +3,15 @@ ghost use Rattle.std.specs.Prelude.{◌≡◌, ◌<◌, ◌≤◌, ℕ, Bool, tr
 ghost use Rattle.k42_limits.specs.declared.TheConstants.{LIVE_LAYOUTS, PROCESSORS};
 ghost use Rattle.k42_kinds.specs.declared.entry.Act.{Act};
 ghost use Rattle.k42_kinds.specs.declared.entry.Reach.TheVariants.{All};
+ghost use Rattle.k42_kinds.specs.declared.entry.To.{To};
 ghost use Rattle.k42_shapes.specs.declared.shape.Shape.{Shape};
 ghost use Rattle.k42_kinds.specs.OneThread.{OneThread};
 ghost use Rattle.k42_kinds.specs.Histories.{is_call};
 ghost use Rattle.k42_kinds.specs.Rows.{Ways, IsWithin};
 ghost use Rattle.k42_shapes.specs.Shapes.{IsKnownTag, IsLiveTag, cells_of, is_dead_tag, shape_at};
-ghost use Rattle.k42_kinds.specs.LayoutLaws.{StepsRow, StandsFor, Begins, Imports, AdmitsAsSwapped, Agree, IsTagged, IsReached, IsWholeRow};
+ghost use Rattle.k42_kinds.specs.LayoutLaws.{StepsRow, StandsFor, Begins, Imports, AdmitsAsSwapped, Agree, IsTagged, IsTarget, IsReached, IsWholeRow};
 
-use crate::entry::{Act, Reach};
+use crate::entry::{Act, Reach, To};
 use crate::kind::Kind;
 use k42_memory::Memory;
 use k42_shapes::Shape;
@@ -45,6 +46,9 @@ pub trait Layout: Kind + Copy + Send + Sync {
     /// What is asked of an object that is to be kept so.
     ghost act_of: { Self → Act Self.Op };
 
+    /// To what a swap of its object may lead.
+    ghost leads: { Self → To → Type 0 };
+
     fn tag(&self) -> u32
         ensures { result ≡ tag_of self.now };
 
@@ -60,6 +64,13 @@ pub trait Layout: Kind + Copy + Send + Sync {
     fn with_tag(&self, tag: u32) -> Self
         requires { IsTrue (has_tag self.now tag) }
         ensures { IsTagged (Self.object result) (Self.object self.now) (tag_of result) tag };
+
+    /// The layout of the same object to which such a swap leads from the live one with this tag.
+    fn target(&self, to: To, present: u32) -> Self
+        requires leads { leads self.now to }
+        requires live { IsLiveTag (shapes self.now) present }
+        requires has { IsTrue (has_tag self.now present) }
+        ensures { IsTarget (Self.object result) (Self.object self.now) (shapes result) (tag_of result) (act_of result) to };
 
     /// The cells that an operation needs for a caller on this processor.
     fn reach(&self, op: &Self::Op, proc: u32, procs: u32) -> Reach

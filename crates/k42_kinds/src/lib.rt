@@ -26,7 +26,7 @@ pub use figures::what_is_told_is_the_figure;
 pub use kind::Kind;
 pub use layout::Layout;
 pub use name::Name;
-pub use operation::{KindName, LayoutName, Op, Reply, kind_of};
+pub use operation::{KindName, LayoutName, Op, Reply, belongs_to, kind_of};
 pub use packed::{Label, Packed, PackedReply, REPLY_TAGS, Size};
 pub use page::Page;
 pub use pages::{PagesState, step_pages};

@@ -1,6 +1,6 @@
 //! Every operation of every kind, and every reply.
 ghost use Rattle.std.specs.Prelude.{◌≡◌};
-ghost use Rattle.k42_kinds.specs.Operations.{kind_of_op};
+ghost use Rattle.k42_kinds.specs.Operations.{kind_of_op, layout_number, takes_operation};
 
 use crate::name::Name;
 use crate::text::Text;
@@ -18,6 +18,18 @@ pub enum KindName {
 pub enum LayoutName {
     Shared,
     Spread,
+}
+
+impl LayoutName {
+    /// The number of that layout among those of its object.
+    pub fn number(self) -> u8
+        ensures { result ≡ layout_number self }
+    {
+        match self {
+            LayoutName::Shared => 0,
+            LayoutName::Spread => 1,
+        }
+    }
 }
 
 /// An operation of an object, with its arguments. A script numbers pages from 0 to 1,023.
@@ -60,5 +72,15 @@ pub fn kind_of(op: &Op) -> Option<KindName>
         Op::Bind(_, _) | Op::Find(_) | Op::Unbind(_) | Op::Size => Some(KindName::Directory),
         Op::Write(_, _) | Op::Read(_) | Op::Dirty | Op::Clean => Some(KindName::Pages),
         Op::Seen => None,
+    }
+}
+
+/// Whether the operation belongs to this kind.
+pub fn belongs_to(op: &Op, kind: KindName) -> bool
+    ensures { result ≡ takes_operation kind op.now }
+{
+    match kind_of(op) {
+        Some(own) => own == kind,
+        None => false,
     }
 }

@@ -6,7 +6,7 @@ ghost use Rattle.k42_kinds.specs.Steps.{Steps};
 use crate::counter::step_counter;
 use crate::directory::{DirectoryState, step_directory};
 use crate::kind::Kind;
-use crate::operation::{KindName, Op, Reply};
+use crate::operation::{KindName, Op, Reply, belongs_to};
 use crate::pages::{PagesState, step_pages};
 use crate::states::AnyState;
 use k42_memory::Memory;
@@ -33,6 +33,10 @@ impl Kind for Plain {
             KindName::Directory => AnyState::Directory(DirectoryState::new(alloc)),
             KindName::Pages => AnyState::Pages(PagesState::new(alloc)),
         }
+    }
+
+    fn takes(&self, op: &Op) -> bool {
+        belongs_to(op, self.kind)
     }
 
     fn step(&self, _alloc: Global, state: &mut AnyState, op: &Op) -> Result<Reply, Memory>

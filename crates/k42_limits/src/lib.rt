@@ -14,7 +14,7 @@ pub const CALLERS: usize = 16;
 /// through. The next one is answered `spent`.
 pub const LAST_INCARNATION: u32 = 1_048_575;
 
-/// An object has 1 to this many live layouts. The dead one comes after them, and all their numbers
+/// An object has at most this many live layouts. The dead one comes after them, and all their numbers
 /// fit into four bits.
 pub const LIVE_LAYOUTS: usize = 15;
 

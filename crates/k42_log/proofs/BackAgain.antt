@@ -1,8 +1,7 @@
 -- An entry comes back from its own head and details.
-use Rattle.std.proofs.Common.{◌≡◌, ◌∙◌, ℕ, ◌+◌, ◌*◌, ◌%◌, ◌<◌, Bool, true, false, if◌then◌else◌, Option, Some, None, refl, ap, sym, subst, arith}
+use Rattle.std.proofs.Common.{◌≡◌, ◌∙◌, ℕ, ◌+◌, ◌*◌, ◌%◌, ◌<◌, Bool, true, false, if◌then◌else◌, IsTrue, Option, Some, None, refl, ap, sym, subst, arith}
 use Rattle.std.proofs.lemmas.Bool.Decides.{nat_tests}
 use Rattle.k42_limits.specs.declared.TheConstants.{OBJECTS}
-use Rattle.k42_kinds.specs.declared.operation.LayoutName.TheVariants.{Shared, Spread}
 use Rattle.k42_kinds.specs.declared.packed.Size.{Size}
 use Rattle.k42_kinds.specs.declared.packed.TheConstants.{REPLY_TAGS}
 use Rattle.k42_kinds.specs.declared.entry.Act.{Act}
@@ -15,7 +14,7 @@ use Rattle.k42_kinds.specs.declared.entry.Entry.{Entry}
 use Rattle.k42_kinds.specs.Histories.{is_call}
 use Rattle.k42_kinds.specs.Packing.{Packing, IsPacked, IsReplyLabel, labelled}
 use Rattle.k42_log.specs.declared.head.Head.{Head}
-use Rattle.k42_log.specs.Names.{end_name, end_named, is_reply, names_reply, to_name, to_named}
+use Rattle.k42_log.specs.Names.{asks_layout, end_name, end_named, is_layout, is_reply, names_layout, names_reply, to_name, to_named}
 use Rattle.k42_log.specs.Details.{Details, details_of, front, joined, no_details, no_size}
 use Rattle.k42_log.specs.Heads.{FitsAct, FitsAnswer, act_back, act_details, act_size, answer_back, answer_details, answer_name, answer_size, answer_small}
 use Rattle.k42_log.specs.Heads.{cell_at, generation_at, generation_or_0, head_of, head_with, object_at, place_of}
@@ -42,33 +41,43 @@ lower tag less = grind (arith, nat_tests, less)
 -- a call and a swap, told apart by their answers
 
 pub reply_named : {R : Type 0} (replies : Packing R) (reply : R) → IsReplyPacked replies reply
-    → names_reply (answer_name replies (Replied reply)) ≡ true
+    → names_reply (replies.label reply).tag ≡ true
 reply_named replies reply packed = lower (replies.label reply).tag packed.low.tag
 
-end_unnamed : {R : Type 0} (replies : Packing R) (answer : Answer R) → is_reply answer ≡ false
-    → names_reply (answer_name replies answer) ≡ false
-end_unnamed replies (Replied reply) is = cc is
-end_unnamed replies (Swapped number) is = refl
-end_unnamed replies (Busy number) is = refl
-end_unnamed replies Spent is = refl
-end_unnamed replies Gone is = refl
-end_unnamed replies (Abandoned number) is = refl
+-- the name tells how a swap was answered, and whether it was one to a layout
+record TellsEnd {R : Type 0} (layout : Bool) (answer : Answer R) (name : ℕ) : Type 0 where
+  pub swap : names_reply name ≡ false
+  pub kept : names_layout name ≡ layout
+  pub again : end_named name (answer_small answer) ≡ answer
 
-to_again : (to : To) → to_named (to_name to) ≡ to
-to_again (tos.Layout Shared) = refl
-to_again (tos.Layout Spread) = refl
+end_tells : {R : Type 0} (layout : Bool) (answer : Answer R) → is_reply answer ≡ false
+    → TellsEnd layout answer (end_name layout answer)
+end_tells layout (Replied reply) is = absurd (cc is)
+end_tells true (Swapped number) is = record { swap = refl; kept = refl; again = refl }
+end_tells true (Busy number) is = record { swap = refl; kept = refl; again = refl }
+end_tells true Spent is = record { swap = refl; kept = refl; again = refl }
+end_tells true Gone is = record { swap = refl; kept = refl; again = refl }
+end_tells true (Abandoned number) is = record { swap = refl; kept = refl; again = refl }
+end_tells false (Swapped number) is = record { swap = refl; kept = refl; again = refl }
+end_tells false (Busy number) is = record { swap = refl; kept = refl; again = refl }
+end_tells false Spent is = record { swap = refl; kept = refl; again = refl }
+end_tells false Gone is = record { swap = refl; kept = refl; again = refl }
+end_tells false (Abandoned number) is = record { swap = refl; kept = refl; again = refl }
+
+end_told : {O R : Type 0} (replies : Packing R) (act : Act O) (answer : Answer R) → is_reply answer ≡ false
+    → TellsEnd (asks_layout act) answer (answer_name replies act answer)
+end_told replies act (Replied reply) is = absurd (cc is)
+end_told replies act (Swapped number) is = end_tells (asks_layout act) (Swapped number) is
+end_told replies act (Busy number) is = end_tells (asks_layout act) (Busy number) is
+end_told replies act Spent is = end_tells (asks_layout act) Spent is
+end_told replies act Gone is = end_tells (asks_layout act) Gone is
+end_told replies act (Abandoned number) is = end_tells (asks_layout act) (Abandoned number) is
+
+to_again : (to : To) → to_named (is_layout to) (to_name to) ≡ to
+to_again (tos.Layout number) = refl
 to_again tos.Dead = refl
 to_again tos.Watch = refl
 to_again tos.Unwatch = refl
-
-end_again : {R : Type 0} (answer : Answer R) → is_reply answer ≡ false
-    → end_named (end_name answer) (answer_small answer) ≡ answer
-end_again (Replied reply) is = cc is
-end_again (Swapped number) is = refl
-end_again (Busy number) is = refl
-end_again Spent is = refl
-end_again Gone is = refl
-end_again (Abandoned number) is = refl
 
 -- what is packed has the size that is told
 just : {V : Type 0} (packing : Packing V) (value : V) → IsPacked packing value → HasJust (packing.size (packing.label value)) (details_of packing value)
@@ -94,8 +103,15 @@ module _ {O R : Type 0} (ops : Packing O) (replies : Packing R) (entry : Entry O
   act_sized (Call op) (Abandoned number) packed told pair = absurd (cc pair)
   act_sized (Swap to) answer packed told pair =
       let is : act_size ops (head_with ops replies entry (Swap to) answer) ≡ no_size =
-      ap (λ (b : Bool). if b then ops.size (labelled (to_name to) (answer_small answer)) else no_size) (end_unnamed replies answer (sym pair)) in
+      ap (λ (b : Bool). if b then ops.size (labelled (to_name to) (answer_small answer)) else no_size) (end_told {O = O} replies (Swap to) answer (sym pair)).swap in
       subst (λ (size : Size). HasJust size no_details) (sym is) (record { words = refl; bytes = refl })
+
+  end_sized : (act : Act O) (answer : Answer R) → is_reply answer ≡ false
+      → HasJust (answer_size replies (head_with ops replies entry act answer)) no_details
+  end_sized act answer is =
+      let none : answer_size replies (head_with ops replies entry act answer) ≡ no_size =
+      ap (λ (b : Bool). if b then replies.size (labelled (answer_name replies act answer) 0) else no_size) (end_told replies act answer is).swap in
+      subst (λ (size : Size). HasJust size no_details) (sym none) (record { words = refl; bytes = refl })
 
   pub answer_sized : (act : Act O) (answer : Answer R) → IsPackedAnswer replies answer
       → HasJust (answer_size replies (head_with ops replies entry act answer)) (answer_details replies answer)
@@ -104,11 +120,15 @@ module _ {O R : Type 0} (ops : Packing O) (replies : Packing R) (entry : Entry O
       ap (λ (b : Bool). if b then replies.size (labelled (replies.label reply).tag 0) else no_size) (reply_named replies reply told) in
       let is = size ∙ ap (λ n. replies.size (labelled (replies.label reply).tag n)) (sym told.low.small) in
       subst (λ (size : Size). HasJust size (details_of replies reply)) (sym is) (just replies reply told.packed)
-  answer_sized act (Swapped number) told = record { words = refl; bytes = refl }
-  answer_sized act (Busy number) told = record { words = refl; bytes = refl }
-  answer_sized act Spent told = record { words = refl; bytes = refl }
-  answer_sized act Gone told = record { words = refl; bytes = refl }
-  answer_sized act (Abandoned number) told = record { words = refl; bytes = refl }
+  answer_sized act (Swapped number) told = end_sized act (Swapped number) refl
+  answer_sized act (Busy number) told = end_sized act (Busy number) refl
+  answer_sized act Spent told = end_sized act Spent refl
+  answer_sized act Gone told = end_sized act Gone refl
+  answer_sized act (Abandoned number) told = end_sized act (Abandoned number) refl
+
+  -- no other answer is named as a reply
+  unreplied : (act : Act O) (answer : Answer R) → is_reply answer ≡ false → ¬ IsTrue (names_reply (answer_name replies act answer))
+  unreplied act answer is call = let swap = sym call ∙ (end_told replies act answer is).swap in cc swap
 
   -- and they may stand behind the labels of the head
 
@@ -122,7 +142,7 @@ module _ {O R : Type 0} (ops : Packing O) (replies : Packing R) (entry : Entry O
   act_fits (Call op) Spent more packed told pair call = absurd (cc pair)
   act_fits (Call op) Gone more packed told pair call = absurd (cc pair)
   act_fits (Call op) (Abandoned number) more packed told pair call = absurd (cc pair)
-  act_fits (Swap to) answer more packed told pair call = absurd (let swap = sym call ∙ end_unnamed replies answer (sym pair) in cc swap)
+  act_fits (Swap to) answer more packed told pair call = absurd (unreplied (Swap to) answer (sym pair) call)
 
   pub answer_fits : (act : Act O) (answer : Answer R) → IsPackedAnswer replies answer
       → FitsAnswer replies (head_with ops replies entry act answer) (front (answer_size replies (head_with ops replies entry act answer)) (answer_details replies answer))
@@ -131,17 +151,17 @@ module _ {O R : Type 0} (ops : Packing O) (replies : Packing R) (entry : Entry O
       front_just _ (details_of replies reply) (answer_sized act (Replied reply) told) in
       subst (λ (d : Details). replies.Fits (labelled (replies.label reply).tag 0) d.words d.bytes) (sym own)
       (subst (λ n. replies.Fits (labelled (replies.label reply).tag n) (replies.words reply) (replies.bytes reply)) told.low.small told.packed.fits)
-  answer_fits act (Swapped number) told call = absurd (cc call)
-  answer_fits act (Busy number) told call = absurd (cc call)
-  answer_fits act Spent told call = absurd (cc call)
-  answer_fits act Gone told call = absurd (cc call)
-  answer_fits act (Abandoned number) told call = absurd (cc call)
+  answer_fits act (Swapped number) told call = absurd (unreplied act (Swapped number) refl call)
+  answer_fits act (Busy number) told call = absurd (unreplied act (Busy number) refl call)
+  answer_fits act Spent told call = absurd (unreplied act Spent refl call)
+  answer_fits act Gone told call = absurd (unreplied act Gone refl call)
+  answer_fits act (Abandoned number) told call = absurd (unreplied act (Abandoned number) refl call)
 
   act_again : (act : Act O) (answer : Answer R) (more : Details) → IsPackedAct ops act → IsPackedAnswer replies answer → is_call act ≡ is_reply answer
       → act_back ops (head_with ops replies entry act answer) (front (act_size ops (head_with ops replies entry act answer)) (joined (act_details ops act) more)) ≡ act
   act_again (Call op) (Replied reply) more packed told pair =
       ap (act_back ops (call_head op reply)) (front_at _ (details_of ops op) more (act_sized (Call op) (Replied reply) packed told pair))
-      ∙ ap (λ (b : Bool). if b then Call (ops.unpack (ops.label op) (ops.words op) (ops.bytes op)) else Swap (to_named (ops.label op).tag)) (reply_named replies reply told)
+      ∙ ap (λ (b : Bool). if b then Call (ops.unpack (ops.label op) (ops.words op) (ops.bytes op)) else Swap (to_named (names_layout (replies.label reply).tag) (ops.label op).tag)) (reply_named replies reply told)
       ∙ ap Call packed.again
   act_again (Call op) (Swapped number) more packed told pair = absurd (cc pair)
   act_again (Call op) (Busy number) more packed told pair = absurd (cc pair)
@@ -150,8 +170,21 @@ module _ {O R : Type 0} (ops : Packing O) (replies : Packing R) (entry : Entry O
   act_again (Call op) (Abandoned number) more packed told pair = absurd (cc pair)
   act_again (Swap to) answer more packed told pair =
       let own = front (act_size ops (head_with ops replies entry (Swap to) answer)) (joined no_details more) in
-      ap (λ (b : Bool). if b then Call (ops.unpack (labelled (to_name to) (answer_small answer)) own.words own.bytes) else Swap (to_named (to_name to))) (end_unnamed replies answer (sym pair))
+      let name = answer_name {O = O} replies (Swap to) answer in
+      let tells = end_told {O = O} replies (Swap to) answer (sym pair) in
+      ap (λ (b : Bool). if b then Call (ops.unpack (labelled (to_name to) (answer_small answer)) own.words own.bytes) else Swap (to_named (names_layout name) (to_name to)))
+      tells.swap
+      ∙ ap (λ (layout : Bool). Swap (to_named layout (to_name to))) tells.kept
       ∙ ap Swap (to_again to)
+
+  end_again : (to : To) (answer : Answer R) (own : Details) → is_reply answer ≡ false
+      → answer_back replies (head_with ops replies entry (Swap to) answer) own ≡ answer
+  end_again to answer own is =
+      let name = answer_name {O = O} replies (Swap to) answer in
+      let tells = end_told {O = O} replies (Swap to) answer is in
+      ap (λ (b : Bool). if b then Replied (replies.unpack (labelled name 0) own.words own.bytes) else end_named name (answer_small answer))
+      tells.swap
+      ∙ tells.again
 
   answer_again : (act : Act O) (answer : Answer R) → IsPackedAnswer replies answer → is_call act ≡ is_reply answer
       → answer_back replies (head_with ops replies entry act answer) (front (answer_size replies (head_with ops replies entry act answer)) (answer_details replies answer)) ≡ answer
@@ -167,11 +200,11 @@ module _ {O R : Type 0} (ops : Packing O) (replies : Packing R) (entry : Entry O
   answer_again (Call op) Spent told pair = absurd (cc pair)
   answer_again (Call op) Gone told pair = absurd (cc pair)
   answer_again (Call op) (Abandoned number) told pair = absurd (cc pair)
-  answer_again (Swap to) (Swapped number) told pair = refl
-  answer_again (Swap to) (Busy number) told pair = refl
-  answer_again (Swap to) Spent told pair = refl
-  answer_again (Swap to) Gone told pair = refl
-  answer_again (Swap to) (Abandoned number) told pair = refl
+  answer_again (Swap to) (Swapped number) told pair = end_again to (Swapped number) _ refl
+  answer_again (Swap to) (Busy number) told pair = end_again to (Busy number) _ refl
+  answer_again (Swap to) Spent told pair = end_again to Spent _ refl
+  answer_again (Swap to) Gone told pair = end_again to Gone _ refl
+  answer_again (Swap to) (Abandoned number) told pair = end_again to (Abandoned number) _ refl
 
 cell_again : (cell object : ℕ) (generation : Option ℕ) → object < OBJECTS
     → cell_at (place_of cell object generation) ≡ cell

@@ -5,12 +5,14 @@ use Rattle.k42_kinds.specs.declared.operation.Op.TheVariants.{Add, Bind}
 use Rattle.k42_kinds.specs.declared.operation.Reply.{Reply}
 use Rattle.k42_kinds.specs.declared.operation.Reply.TheVariants.{Done, Number}
 use Rattle.k42_kinds.specs.declared.entry.Act.TheVariants.{Call, Swap}
-use Rattle.k42_kinds.specs.declared.entry.To.TheVariants.{Watch}
-use Rattle.k42_kinds.specs.declared.entry.Answer.TheVariants.{Replied, Busy}
+use Rattle.k42_kinds.specs.declared.entry.To.{To}
+use Rattle.k42_kinds.specs.declared.entry.To.TheVariants.{Layout, Dead, Watch}
+use Rattle.k42_kinds.specs.declared.entry.Answer.{Answer}
+use Rattle.k42_kinds.specs.declared.entry.Answer.TheVariants.{Replied, Swapped, Busy, Gone, Abandoned}
 use Rattle.k42_kinds.specs.declared.entry.Entry.{Entry}
 use Rattle.k42_kinds.specs.PackedCalls.{op_packing, reply_packing}
 use Rattle.k42_log.specs.declared.head.Head.{Head}
-use Rattle.k42_log.specs.Details.{Details}
+use Rattle.k42_log.specs.Details.{Details, no_details}
 use Rattle.k42_log.specs.Heads.{head_of}
 use Rattle.k42_log.specs.Entries.{AreWhole, Owner, entries_back, entry_back}
 use Rattle.k42_log.specs.Logs.{IsNextOf, LogSeen}
@@ -66,8 +68,8 @@ watch_head = record {
   generation = 0;
   small = 7;
   place = 6;
-  act = 3;
-  answer = 241;
+  act = 1;
+  answer = 246;
 }
 
 abbrev details : Details
@@ -107,6 +109,38 @@ no_generation same = let other : ◌≡◌ {A = Option ℕ} None (Some 6) = λ i
 -- so do words in another order
 other_order : ¬ (entry_back op_packing reply_packing owner 40 bind_head (record details { words = 8 ∷ 9 ∷ [] }) ≡ bind)
 other_order same = let other : Call (Bind (97 ∷ []) 8) ≡ Call (Bind (97 ∷ []) 9) = λ i. (same i).act in cc
+
+-- such a swap, and its head
+
+abbrev swap : To → Answer Reply → Entry Op Reply
+swap to answer = record watch { act = Swap to; answer = answer }
+
+abbrev swap_head : (small act answer : ℕ) → Head
+swap_head small act answer = record watch_head { small = small; act = act; answer = answer }
+
+-- swaps to layouts, of which the last has the highest number, and a destroy
+swap_heads :
+    head_of op_packing reply_packing (swap (Layout 0) Gone)
+    ∷ head_of op_packing reply_packing (swap (Layout 14) (Swapped 8))
+    ∷ head_of op_packing reply_packing (swap (Layout 255) (Abandoned 8))
+    ∷ head_of op_packing reply_packing (swap Dead Gone) ∷ []
+    ≡ swap_head 0 0 243 ∷ swap_head 8 14 240 ∷ swap_head 8 255 244 ∷ swap_head 0 0 248 ∷ []
+swap_heads = refl
+
+swap_back : entry_back op_packing reply_packing owner 41 (swap_head 8 255 244) no_details ≡ swap (Layout 255) (Abandoned 8)
+swap_back = refl
+
+-- a destroy is not kept as a swap to a layout
+destroy_apart : ¬ (head_of op_packing reply_packing (swap (Layout 0) Gone) ≡ head_of op_packing reply_packing (swap Dead Gone))
+destroy_apart same = let answers : ◌≡◌ {A = ℕ} 243 248 = λ i. (same i).answer in omega arith
+
+-- nor is one to another layout
+layout_apart : ¬ (entry_back op_packing reply_packing owner 41 (swap_head 8 14 240) no_details ≡ swap (Layout 255) (Swapped 8))
+layout_apart same = let acts : Swap (Layout 14) ≡ Swap (Layout 255) = λ i. (same i).act in cc acts
+
+-- five less in the answer of a destroy, and it is read as a swap to a layout
+destroy_misread : ¬ (entry_back op_packing reply_packing owner 41 (swap_head 0 0 243) no_details ≡ swap Dead Gone)
+destroy_misread same = let acts : Swap (Layout 0) ≡ Swap Dead = λ i. (same i).act in cc acts
 
 abbrev log : LogSeen Op Reply
 log = record { owner = owner; first = 40; entries = bind ∷ []; room = 1 }

@@ -14,7 +14,7 @@ use Rattle.k42_kinds.specs.Histories.{is_call}
 use Rattle.k42_kinds.specs.Packing.{Packing, IsNoMoreThan, IsPacked}
 use Rattle.k42_log.specs.declared.head.Head.{Head}
 use Rattle.k42_log.specs.declared.log.Log.TheInside.{Inside}
-use Rattle.k42_log.specs.Names.{end_name, is_reply, to_name}
+use Rattle.k42_log.specs.Names.{end_name, is_layout, is_reply, to_name}
 use Rattle.k42_log.specs.Details.{Details, details_of, entries_fitting, joined, less_by, no_details}
 use Rattle.k42_log.specs.Heads.{act_details, answer_details, answer_small, generation_or_0, head_of, head_with, place_of}
 use Rattle.k42_log.specs.Entries.{AreWhole, entries_back}
@@ -110,7 +110,7 @@ module _ {O R : Type 0} (ops : Packing O) (replies : Packing R) where
     small = answer_small entry.answer;
     place = place_of entry.cell entry.object entry.generation;
     act = to_name to;
-    answer = end_name entry.answer;
+    answer = end_name (is_layout to) entry.answer;
   }
 
   swap_head_with : (entry : Entry O R) (to : To) (answer : Answer R) → entry.answer ≡ answer → is_reply answer ≡ false

@@ -10,7 +10,7 @@ use Rattle.k42_kinds.specs.declared.entry.Answer.TheVariants.{Replied, Swapped, 
 use Rattle.k42_kinds.specs.declared.entry.Entry.{Entry}
 use Rattle.k42_kinds.specs.Packing.{Packing, labelled}
 use Rattle.k42_log.specs.declared.head.Head.{Head}
-use Rattle.k42_log.specs.Names.{end_name, end_named, names_reply, to_name, to_named}
+use Rattle.k42_log.specs.Names.{asks_layout, end_name, end_named, names_layout, names_reply, to_name, to_named}
 use Rattle.k42_log.specs.Details.{Details, details_of, no_details, no_size}
 
 -- the cell, the object, and whether there is a generation, as one number
@@ -40,9 +40,10 @@ abbrev pub act_label : {O R : Type 0} → Packing O → Act O → Answer R → L
 act_label ops (Call op) answer = ops.label op
 act_label ops (Swap to) answer = labelled (to_name to) (answer_small answer)
 
-abbrev pub answer_name : {R : Type 0} → Packing R → Answer R → ℕ
-answer_name replies (Replied reply) = (replies.label reply).tag
-answer_name replies answer = end_name answer
+-- what was answered, by the label of a reply, or by how a swap ended and whether it was one to a layout
+abbrev pub answer_name : {O R : Type 0} → Packing R → Act O → Answer R → ℕ
+answer_name replies act (Replied reply) = (replies.label reply).tag
+answer_name replies act answer = end_name (asks_layout act) answer
 
 -- the details of what was asked and of what was answered
 
@@ -75,7 +76,7 @@ FitsAnswer replies head own = IsTrue (names_reply head.answer) → replies.Fits 
 abbrev pub act_back : {O : Type 0} → Packing O → Head → Details → Act O
 act_back ops head own =
     if names_reply head.answer then Call (ops.unpack (labelled head.act head.small) own.words own.bytes)
-    else Swap (to_named head.act)
+    else Swap (to_named (names_layout head.answer) head.act)
 
 abbrev pub answer_back : {R : Type 0} → Packing R → Head → Details → Answer R
 answer_back replies head own =
@@ -96,7 +97,7 @@ head_with ops replies entry act answer = record {
   small = (act_label ops act answer).small;
   place = place_of entry.cell entry.object entry.generation;
   act = (act_label ops act answer).tag;
-  answer = answer_name replies answer;
+  answer = answer_name replies act answer;
 }
 
 abbrev pub head_of : {O R : Type 0} → Packing O → Packing R → Entry O R → Head

@@ -19,9 +19,10 @@ pub(crate) struct Head {
     pub(crate) small: u32,
     /// `(cell * OBJECTS + object) * 2`, and 1 more where there is a generation.
     pub(crate) place: u16,
-    /// The tag of an operation, or how the object was to be kept.
+    /// The tag of an operation, the number of a layout, or how else the object was to be kept.
     pub(crate) act: u8,
-    /// The tag of a reply, or from `REPLY_TAGS` on how a swap was answered.
+    /// The tag of a reply, or from `REPLY_TAGS` on how a swap was answered, and whether it was one
+    /// to a layout.
     pub(crate) answer: u8,
 }
 

@@ -139,7 +139,7 @@ impl<O: Packed, R: PackedReply> Log<O, R> {
                 small: answer_small(&entry.answer),
                 place: place_of(entry.cell, entry.object, entry.generation),
                 act: to_name(to),
-                answer: end_name(&entry.answer),
+                answer: end_name(to, &entry.answer),
             }),
         }
     }

@@ -1,36 +1,46 @@
 //! What swaps ask, and how they are answered, as numbers.
 ghost use Rattle.std.specs.Prelude.{◌≡◌};
-ghost use Rattle.k42_log.specs.Names.{end_name, end_named, names_reply, to_name, to_named};
+ghost use Rattle.k42_log.specs.Names.{end_name, end_named, is_layout, layout_end, layout_ended, names_layout, names_reply, to_name, to_named};
 
-use k42_kinds::{Answer, LayoutName, REPLY_TAGS, To};
+use k42_kinds::{Answer, REPLY_TAGS, To};
+
+/// The ways in which a swap is answered.
+pub(crate) const ENDS: u8 = 5;
 
 pub(crate) fn to_name(to: &To) -> u8
     ensures { result ≡ to_name to.now }
 {
     match to {
-        To::Layout(LayoutName::Shared) => 0,
-        To::Layout(LayoutName::Spread) => 1,
-        To::Dead => 2,
-        To::Watch => 3,
-        To::Unwatch => 4,
+        To::Layout(number) => *number,
+        To::Dead => 0,
+        To::Watch => 1,
+        To::Unwatch => 2,
     }
 }
 
-pub(crate) fn to_named(name: u8) -> To
-    ensures { result ≡ to_named name }
+/// What a swap asks, to a layout or not.
+pub(crate) fn to_named(layout: bool, name: u8) -> To
+    ensures { result ≡ to_named layout name }
 {
+    if layout {
+        return To::Layout(name);
+    }
     match name {
-        0 => To::Layout(LayoutName::Shared),
-        1 => To::Layout(LayoutName::Spread),
-        2 => To::Dead,
-        3 => To::Watch,
+        0 => To::Dead,
+        1 => To::Watch,
         _ => To::Unwatch,
     }
 }
 
-/// How a swap was answered.
-pub(crate) fn end_name<R>(answer: &Answer<R>) -> u8
-    ensures { result ≡ end_name answer.now }
+fn is_layout(to: &To) -> bool
+    ensures { result ≡ is_layout to.now }
+{
+    matches!(to, To::Layout(_))
+}
+
+/// How a swap to a layout was answered.
+fn layout_end<R>(answer: &Answer<R>) -> u8
+    ensures { result ≡ layout_end answer.now }
 {
     match answer {
         Answer::Swapped(_) => REPLY_TAGS,
@@ -41,8 +51,16 @@ pub(crate) fn end_name<R>(answer: &Answer<R>) -> u8
     }
 }
 
-pub(crate) fn end_named<R>(name: u8, small: u32) -> Answer<R>
-    ensures { result ≡ end_named name small }
+/// How a swap was answered, and whether it was one to a layout.
+pub(crate) fn end_name<R>(to: &To, answer: &Answer<R>) -> u8
+    ensures { result ≡ end_name (is_layout to.now) answer.now }
+{
+    let end = layout_end(answer);
+    if is_layout(to) { end } else { end + ENDS }
+}
+
+fn layout_ended<R>(name: u8, small: u32) -> Answer<R>
+    ensures { result ≡ layout_ended name small }
 {
     if name == REPLY_TAGS {
         Answer::Swapped(small)
@@ -55,6 +73,24 @@ pub(crate) fn end_named<R>(name: u8, small: u32) -> Answer<R>
     } else {
         Answer::Abandoned(small)
     }
+}
+
+pub(crate) fn end_named<R>(name: u8, small: u32) -> Answer<R>
+    ensures { result ≡ end_named name small }
+{
+    let name = if names_layout(name) {
+        name
+    } else {
+        name - ENDS
+    };
+    layout_ended(name, small)
+}
+
+/// Whether the name of a swap's answer tells of a layout.
+pub(crate) fn names_layout(name: u8) -> bool
+    ensures { result ≡ names_layout name }
+{
+    name < REPLY_TAGS + ENDS
 }
 
 /// Whether the name of an answer is that of a reply.

@@ -4,7 +4,7 @@ ghost use Rattle.k42_log.specs.Details.{HasSoMany, behind, front};
 ghost use Rattle.k42_log.specs.Heads.{FitsAct, FitsAnswer, act_back, act_size, answer_back, answer_size};
 
 use crate::head::Head;
-use crate::name::{end_named, names_reply, to_named};
+use crate::name::{end_named, names_layout, names_reply, to_named};
 use k42_kinds::{Act, Answer, Label, Packed};
 use std::marker::Model;
 
@@ -58,7 +58,7 @@ impl<'a> Reading<'a> {
             };
             Act::Call(self.next(label))
         } else {
-            Act::Swap(to_named(head.act))
+            Act::Swap(to_named(names_layout(head.answer), head.act))
         }
     }
 

@@ -28,8 +28,6 @@ use Rattle.k42_tables.specs.declared.answers.Tried.TheVariants as tried
 use Rattle.k42_runtime.specs.Calls.{WasBlocked, WasHeld}
 use Rattle.k42_runtime.specs.Serving.{IsServing, GoesOut}
 use Rattle.k42_runtime.proofs.CallTaken.{meets_lock}
-use Rattle.k42_kinds.specs.declared.operation.Op.{Op}
-use Rattle.k42_kinds.specs.declared.operation.Reply.{Reply}
 
 -- what the bit of a word says by its answer
 blocked_bit : (i : ℕ) (b : Bool) → Blocked ≡ cond b Blocked (Admitted i) → b ≡ true
@@ -40,19 +38,19 @@ open_bit : (i j : ℕ) (b : Bool) → Admitted j ≡ cond b Blocked (Admitted i)
 open_bit i j true e = absurd (cc)
 open_bit i j false e = refl
 
-module _ {S L P : Type 0} (F : Layouts S L P Op Reply) (declared : List L) (id o : ℕ) (old new : PassView P Op Reply) where
+module _ {S L P O R : Type 0} (F : Layouts S L P O R) (declared : List L) (id o : ℕ) (old new : PassView P O R) where
   -- who was blocked is inside no call
   pub kept_out : IsKnock F declared id o old new Blocked → (is_out new.visitor.place ≡ true) × WasBlocked o old.log new.log
   kept_out is =
       let shut = blocked_bit (incarnation_in is.found) (has_bit is.found 25) is.answer_is in
       let out = subst (λ b. GoesThrough o is.found b old new) shut is.through in
       let knock = step_at steps.Knock (object_word o) is.found in let left = step_at steps.StepOut (object_word o) out.0 in (
-        ap (λ (v : PassView P Op Reply). is_out v.visitor.place) out.1,
+        ap (λ (v : PassView P O R). is_out v.visitor.place) out.1,
         record {
           found = is.found;
           blocked = shut;
           met =
-              meets_as (ap (λ (v : PassView P Op Reply). v.log) out.1)
+              meets_as (ap (λ (v : PassView P O R). v.log) out.1)
               (meets_then (meets_one knock old.log (ap (λ b. cond b (knock ∷ []) []) shut)) (extends_one left (knock ∷ old.log) refl));
         },
       )
@@ -65,16 +63,16 @@ module _ {S L P : Type 0} (F : Layouts S L P Op Reply) (declared : List L) (id o
       let knock = step_at steps.Knock (object_word o) is.found in (
         record {
           served =
-              ap (λ (v : PassView P Op Reply). is_served v.visitor.place) through
+              ap (λ (v : PassView P O R). is_served v.visitor.place) through
               ∙ ap (λ b. is_served (knocked old.visitor o (incarnation_in is.found) b).place) open';
           of =
-              ap (λ (v : PassView P Op Reply). object_of v.visitor.place) through
+              ap (λ (v : PassView P O R). object_of v.visitor.place) through
               ∙ ap (λ b. object_of (knocked old.visitor o (incarnation_in is.found) b).place) open';
           known =
-              ap (λ (v : PassView P Op Reply). is_some v.layout) through
+              ap (λ (v : PassView P O R). is_some v.layout) through
               ∙ ap (λ b. is_some (cond b None (Some (layout_in is.found)))) open';
         },
-        extends_as (ap (λ (v : PassView P Op Reply). v.log) through) (extends_one knock old.log (ap (λ b. cond b (knock ∷ []) []) open')),
+        extends_as (ap (λ (v : PassView P O R). v.log) through) (extends_one knock old.log (ap (λ b. cond b (knock ∷ []) []) open')),
       )
 
   -- the steps of a try before it installs
@@ -87,7 +85,7 @@ module _ {S L P : Type 0} (F : Layouts S L P Op Reply) (declared : List L) (id o
   pub led_inside : (place : ℕ) → HasFilled F declared id o old new (Installed place) → (is_served new.visitor.place ≡ true) × (object_of new.visitor.place ≡ o)
       → IsServing o new × Extends old.log new.log
   led_inside place is there = go (eqb is.found (local_value (empty_entry (row_of old.visitor.place)))) is.answered is.installed.knows where
-    x : PassView P Op Reply
+    x : PassView P O R
     x = tried_view o is.root true old
 
     word : ℕ
@@ -96,15 +94,15 @@ module _ {S L P : Type 0} (F : Layouts S L P Op Reply) (declared : List L) (id o
     go : (b : Bool) → Installed place ≡ cond b (Installed (place_named o (rooted_view is.root old))) (Elsewhere is.found)
         → new ≡ took steps.Install word is.found (cond b (direct_view o x) (ended_view x)) → IsServing o new × Extends old.log new.log
     go true e knows = (
-      record { served = there.0; of = there.1; known = ap (λ (v : PassView P Op Reply). is_some v.layout) knows },
-      record { gained = step_at steps.Install word is.found ∷ steps_filling is.root; log = ap (λ (v : PassView P Op Reply). v.log) knows; meets_none = refl },
+      record { served = there.0; of = there.1; known = ap (λ (v : PassView P O R). is_some v.layout) knows },
+      record { gained = step_at steps.Install word is.found ∷ steps_filling is.root; log = ap (λ (v : PassView P O R). v.log) knows; meets_none = refl },
     )
     go false e knows = absurd (cc)
 
   -- another word that it found is what has held it up
   ended_elsewhere : (word : ℕ) → HasFilled F declared id o old new (Elsewhere word) → EndsWith (step_at steps.Install (local_word old.turn.proc o) word) old.log new.log
   ended_elsewhere word is = go (eqb is.found (local_value (empty_entry (row_of old.visitor.place)))) is.answered is.installed.knows where
-    x : PassView P Op Reply
+    x : PassView P O R
     x = tried_view o is.root true old
 
     at : ℕ
@@ -117,7 +115,7 @@ module _ {S L P : Type 0} (F : Layouts S L P Op Reply) (declared : List L) (id o
         let same : word ≡ is.found = cc in
         record {
           gained = steps_filling is.root;
-          log = ap (λ (v : PassView P Op Reply). v.log) knows ∙ ap (λ found. step_at steps.Install at found ∷ steps_filling is.root ++ old.log) (sym same);
+          log = ap (λ (v : PassView P O R). v.log) knows ∙ ap (λ found. step_at steps.Install at found ∷ steps_filling is.root ++ old.log) (sym same);
           meets_none = refl;
         }
 
@@ -138,13 +136,13 @@ module _ {S L P : Type 0} (F : Layouts S L P Op Reply) (declared : List L) (id o
       (subst (λ a. IfFilled a (λ given. EndsAt given o new.visitor.place)) whole ends)
 
 -- so is a lock of another caller
-pub found_held : {P : Type 0} (o : ℕ) (old new : PassView P Op Reply) (answer : tries.Tried) (holder : ℕ) → old.turn.proc < 8 → answer ≡ tried.Held holder
+pub found_held : {P O R : Type 0} (o : ℕ) (old new : PassView P O R) (answer : tries.Tried) (holder : ℕ) → old.turn.proc < 8 → answer ≡ tried.Held holder
     → IfHeld answer (HasFoundHeld o old new) → (is_out new.visitor.place ≡ true) × WasHeld o holder old new
-found_held o old new answer holder there is has' =
+found_held {O = O} {R = R} o old new answer holder there is has' =
     let has : HasFoundHeld o old new holder = subst (λ a. IfHeld a (HasFoundHeld o old new)) is has' in
     let rooted = rooted_view has.root old in let n : ℕ = tried_cell o has.root old in
     let root = step_at steps.LoadRoot (object_word o) has.root in let lock = step_at steps.Lock (lock_word n) (holder + 1) in (
-      ap (λ (v : PassView _ Op Reply). is_out v.visitor.place) has.knows,
+      ap (λ (v : PassView _ O R). is_out v.visitor.place) has.knows,
       record {
         incarnation = row_of old.visitor.place;
         place = place_named o rooted;
@@ -152,22 +150,22 @@ found_held o old new answer holder there is has' =
         another = has.another;
         caller = has.caller;
         met =
-            meets_as (ap (λ (v : PassView _ Op Reply). v.log) has.knows)
+            meets_as (ap (λ (v : PassView _ O R). v.log) has.knows)
             (meets_then (meets_on (extends_one root old.log refl) (meets_lock (lock_word n) holder (root ∷ old.log)))
             (extends_one (step_at steps.EndCall (local_word old.turn.proc o) has.ended) (lock ∷ root ∷ old.log) refl));
       },
     )
 
 -- for want of memory it has given its call up, and nothing has held it up
-pub gave_way : {P : Type 0} (o : ℕ) (old new : PassView P Op Reply) → HasGivenUp o old new → GoesOut old new
-gave_way o old new is =
+pub gave_way : {P O R : Type 0} (o : ℕ) (old new : PassView P O R) → HasGivenUp o old new → GoesOut old new
+gave_way {O = O} {R = R} o old new is =
     let n : ℕ = tried_cell o is.root old in (
-      ap (λ (v : PassView _ Op Reply). is_out v.visitor.place) is.knows,
+      ap (λ (v : PassView _ O R). is_out v.visitor.place) is.knows,
       record {
         gained =
             step_at steps.EndCall (local_word old.turn.proc o) is.ended ∷ steps_through n false
             ++ step_at steps.Lock (lock_word n) 0 ∷ step_at steps.LoadRoot (object_word o) is.root ∷ [];
-        log = ap (λ (v : PassView _ Op Reply). v.log) is.knows;
+        log = ap (λ (v : PassView _ O R). v.log) is.knows;
         meets_none = refl;
       },
     )

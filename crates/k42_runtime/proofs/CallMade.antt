@@ -15,8 +15,6 @@ use Rattle.k42_kinds.specs.declared.entry.Answer.TheVariants.{Replied}
 use Rattle.k42_kinds.specs.declared.entry.Entry.{Entry}
 use Rattle.k42_kinds.specs.declared.entry.Reach.{Reach}
 use Rattle.k42_kinds.specs.declared.entry.Reach.TheVariants.{One, All}
-use Rattle.k42_kinds.specs.declared.operation.Op.{Op}
-use Rattle.k42_kinds.specs.declared.operation.Reply.{Reply}
 use Rattle.phase_core.specs.Stages.{IsInside, object_of, row_of}
 use Rattle.phase_core.specs.declared.caller.Place.{Place}
 use Rattle.phase_core.specs.declared.caller.Place.TheVariants.{Out, Missed, Direct, AtMediator, Tracked, Blocked}
@@ -67,13 +65,13 @@ served_inside (AtMediator o) e = absurd (cc)
 served_inside (Blocked o) e = absurd (cc)
 
 -- where none is due there is none
-none_due : {S P : Type 0} (ways : Ways S P Op Reply) (procs p : ℕ) (own : Option P) → HasDue ways procs p own None → own ≡ None
+none_due : {S P O R : Type 0} (ways : Ways S P O R) (procs p : ℕ) (own : Option P) → HasDue ways procs p own None → own ≡ None
 none_due ways procs p None is = refl
 none_due ways procs p (Some part) is = absurd is
 
 -- a list with one number is that of one cell
-record IsSingle {P : Type 0} (cells : List (Content P Op Reply)) (n : ℕ) : Type 0 where
-  cell : Content P Op Reply
+record IsSingle {P O R : Type 0} (cells : List (Content P O R)) (n : ℕ) : Type 0 where
+  cell : Content P O R
   are : cells ≡ cell ∷ []
   number : cell.number ≡ n
 
@@ -81,57 +79,57 @@ abbrev first_of : List ℕ → ℕ
 first_of [] = 0
 first_of (n ∷ ns) = n
 
-single : {P : Type 0} (cells : List (Content P Op Reply)) (n : ℕ) → numbers_of cells ≡ n ∷ [] → IsSingle cells n
+single : {P O R : Type 0} (cells : List (Content P O R)) (n : ℕ) → numbers_of cells ≡ n ∷ [] → IsSingle cells n
 single [] n e = absurd (let long = ap length e in omega (arith, long))
 single (c ∷ []) n e = record { cell = c; are = refl; number = ap first_of e }
 single (c ∷ d ∷ cells) n e = absurd (let long = ap length e in omega (arith, long))
 
-only : {P : Type 0} (Q : Content P Op Reply → Type 0) (c : Content P Op Reply) → Q c → EachPlace (λ place x. Q x) (c ∷ [])
+only : {P O R : Type 0} (Q : Content P O R → Type 0) (c : Content P O R) → Q c → EachPlace (λ place x. Q x) (c ∷ [])
 only Q c q zero x e = subst Q (same_Some c x e) q
 only Q c q (suc place) x e = absurd (cc)
 
 -- a list of one is told what its cell is
-pub told_alone : {P : Type 0} (notes : List (Note P Op Reply)) (x y : Content P Op Reply) → IsTold notes x y → AreTold notes (x ∷ []) (y ∷ [])
-told_alone {P} notes x y is = (refl, each) where
-  each : (k : ℕ) (a b : Content P Op Reply) → slice_get (x ∷ []) k ≡ Some a → slice_get (y ∷ []) k ≡ Some b → IsTold notes a b
-  each zero a b e f = subst (λ (z : Content P Op Reply × Content P Op Reply). IsTold notes z.0 z.1) (λ j. (same_Some x a e j, same_Some y b f j)) is
+pub told_alone : {P O R : Type 0} (notes : List (Note P O R)) (x y : Content P O R) → IsTold notes x y → AreTold notes (x ∷ []) (y ∷ [])
+told_alone {P} {O} {R} notes x y is = (refl, each) where
+  each : (k : ℕ) (a b : Content P O R) → slice_get (x ∷ []) k ≡ Some a → slice_get (y ∷ []) k ≡ Some b → IsTold notes a b
+  each zero a b e f = subst (λ (z : Content P O R × Content P O R). IsTold notes z.0 z.1) (λ j. (same_Some x a e j, same_Some y b f j)) is
   each (suc k) a b e f = absurd (cc)
 
-module _ {S L P : Type 0} (F : Layouts S L P Op Reply) (declared : List L) (layout : L) (op : Op) where
+module _ {S L P O R : Type 0} (F : Layouts S L P O R) (declared : List L) (layout : L) (op : O) where
   -- cells are taken of the row that it is inside
-  pub at_still : (reach : Reach) (cells others : List ℕ) (log : List Taken) (v w : PassView P Op Reply) → released others w ≡ with_log log (released cells v)
+  pub at_still : (reach : Reach) (cells others : List ℕ) (log : List Taken) (v w : PassView P O R) → released others w ≡ with_log log (released cells v)
       → IsCallAt F declared v layout reach op → IsCallAt F declared w layout reach op
   at_still reach cells others log v w e is = record {
-    served = ap (λ (x : PassView P Op Reply). is_served x.visitor.place) e ∙ is.served;
-    few = subst (λ (x : PassView P Op Reply). object_inside x < 16) (sym e) is.few;
+    served = ap (λ (x : PassView P O R). is_served x.visitor.place) e ∙ is.served;
+    few = subst (λ (x : PassView P O R). object_inside x < 16) (sym e) is.few;
     declaration = is.declaration;
-    declares = ap (λ (x : PassView P Op Reply). slice_get declared (object_inside x)) e ∙ is.declares;
+    declares = ap (λ (x : PassView P O R). slice_get declared (object_inside x)) e ∙ is.declares;
     same = is.same;
-    tagged = ap (λ (x : PassView P Op Reply). x.layout) e ∙ is.tagged;
+    tagged = ap (λ (x : PassView P O R). x.layout) e ∙ is.tagged;
     known = is.known;
-    on = subst (λ (x : PassView P Op Reply). x.turn.proc < F.procs) (sym e) is.on;
+    on = subst (λ (x : PassView P O R). x.turn.proc < F.procs) (sym e) is.on;
     takes = is.takes;
-    reaches = is.reaches ∙ ap (λ (x : PassView P Op Reply). (F.ways_of layout).reach F.procs op x.turn.proc) (sym e);
+    reaches = is.reaches ∙ ap (λ (x : PassView P O R). (F.ways_of layout).reach F.procs op x.turn.proc) (sym e);
   }
 
   -- the one cell is taken
-  pub has_alone : (p n : ℕ) (v w : PassView P Op Reply) (cell : Content P Op Reply) → n ≡ cell_of (object_inside v) (row_inside v) p → IsCallAt F declared v layout (One p) op
+  pub has_alone : (p n : ℕ) (v w : PassView P O R) (cell : Content P O R) → n ≡ cell_of (object_inside v) (row_inside v) p → IsCallAt F declared v layout (One p) op
       → HasTakenNext F declared n v w [] (cell ∷ []) → HasCells F declared w layout (One p) op (cell ∷ [])
   has_alone p n v w cell named is next = record {
     call = at_still (One p) [] (numbers_of (cell ∷ [])) w.log v w next.released_is is;
     numbers =
         next.numbers ∙ ap (λ m. m ∷ []) named
-        ∙ ap (λ (x : PassView P Op Reply). cell_of (object_inside x) (row_inside x) p ∷ []) (sym next.released_is);
+        ∙ ap (λ (x : PassView P O R). cell_of (object_inside x) (row_inside x) p ∷ []) (sym next.released_is);
     held = next.held;
     taken = next.taken;
     rows = next.rows;
     back = next.back;
   }
 
-module _ {S L P : Type 0} (F : Layouts S L P Op Reply) (laws : AreLaws F) (declared : List L)
+module _ {S L P O R : Type 0} (F : Layouts S L P O R) (laws : AreLaws F) (declared : List L)
     (agrees : (l m : L) → F.object_of l ≡ F.object_of m → F.tag_of l ≡ F.tag_of m
     → Agree (F.ways_of l) (F.ways_of m) (F.Whole l) (F.Whole m) (F.Serves l) (F.Serves m))
-    (v : PassView P Op Reply) (layout : L) (reach : Reach) (op : Op) (cells : List (Content P Op Reply)) (has : HasCells F declared v layout reach op cells)
+    (v : PassView P O R) (layout : L) (reach : Reach) (op : O) (cells : List (Content P O R)) (has : HasCells F declared v layout reach op cells)
     (procs_few : F.procs ≤ 8) where
   abbrev o : ℕ
   o = object_inside v
@@ -139,7 +137,7 @@ module _ {S L P : Type 0} (F : Layouts S L P Op Reply) (laws : AreLaws F) (decla
   abbrev i : ℕ
   i = row_inside v
 
-  abbrev ways : Ways S P Op Reply
+  abbrev ways : Ways S P O R
   ways = F.ways_of layout
 
   abbrev many : ℕ
@@ -183,7 +181,7 @@ module _ {S L P : Type 0} (F : Layouts S L P Op Reply) (laws : AreLaws F) (decla
               (ap (names (cells_noted v.notes)) (sym one.number) ∙ here.noted)),
         )
 
-    stepped_one : (reply : Reply) (news : List (Content P Op Reply)) → HasSteppedCells ways F.procs many op (One p) reply cells news
+    stepped_one : (reply : R) (news : List (Content P O R)) → HasSteppedCells ways F.procs many op (One p) reply cells news
         → (reply ≡ ways.part_reply (due_in ways F.procs p one.cell) op) × (news ≡ stepped_at ways F.procs p op one.cell ∷ [])
     stepped_one reply news made = subst (λ cs. HasSteppedCells ways F.procs many op (One p) reply cs news) one.are made
 
@@ -197,7 +195,7 @@ module _ {S L P : Type 0} (F : Layouts S L P Op Reply) (laws : AreLaws F) (decla
     all_numbers = has.numbers ∙ ap (cells_reached F.procs o i) e
 
     all_long : length cells ≡ F.procs
-    all_long = sym (length-map cells (λ (content : Content P Op Reply). content.number)) ∙ ap length all_numbers ∙ length_made (cell_of o i) 0 F.procs
+    all_long = sym (length-map cells (λ (content : Content P O R). content.number)) ∙ ap length all_numbers ∙ length_made (cell_of o i) 0 F.procs
 
     noted_at : (p : ℕ) → p < F.procs → names (cells_noted v.notes) (cell_of o i p) ≡ true
     noted_at p lt =
@@ -212,7 +210,7 @@ module _ {S L P : Type 0} (F : Layouts S L P Op Reply) (laws : AreLaws F) (decla
     -- the first cells have the parts that are due
     own_numbers : numbers_of (take many cells) ≡ made_from (cell_of o i) 0 many
     own_numbers =
-        sym (take-map (λ (content : Content P Op Reply). content.number) many cells) ∙ ap (take many) all_numbers
+        sym (take-map (λ (content : Content P O R). content.number) many cells) ∙ ap (take many) all_numbers
         ∙ take_made (cell_of o i) 0 F.procs many many_few
 
     parts_are : parts_from ways F.procs 0 (take many cells) ≡ parts_due ways F.procs v.notes o i (shape_of F layout)
@@ -234,7 +232,7 @@ module _ {S L P : Type 0} (F : Layouts S L P Op Reply) (laws : AreLaws F) (decla
         (subst (HasDue (F.ways_of row_is.layout) F.procs p first.note.part) (part_at-beyond row_is.row p (omega (arith, le, long)))
         (row_is.parts first.place p first.note lt first.there first.named))
 
-    none_behind : EachPlace (λ place (content : Content P Op Reply). content.part ≡ None) (drop many cells)
+    none_behind : EachPlace (λ place (content : Content P O R). content.part ≡ None) (drop many cells)
     none_behind k content at =
         let there = in_drop many cells k content at in
         let is = place_in_row cells F.procs o i all_numbers procs_few (many + k) content there in
@@ -284,7 +282,7 @@ module _ {S L P : Type 0} (F : Layouts S L P Op Reply) (laws : AreLaws F) (decla
   pub may_give_taken : (id : ℕ) → MayGiveBack F declared id v cells
   may_give_taken id = may_give F declared laws id v cells once has.back has.held has.taken small
 
-  module _ (reply : Reply) (news : List (Content P Op Reply)) (made : HasSteppedCells ways F.procs many op reach reply cells news) where
+  module _ (reply : R) (news : List (Content P O R)) (made : HasSteppedCells ways F.procs many op reach reply cells news) where
     pub numbers_stepped : numbers_of news ≡ numbers_of cells
     numbers_stepped = go reach refl made where
       go : (r : Reach) → reach ≡ r → HasSteppedCells ways F.procs many op r reply cells news → numbers_of news ≡ numbers_of cells
@@ -293,7 +291,7 @@ module _ {S L P : Type 0} (F : Layouts S L P Op Reply) (laws : AreLaws F) (decla
 
     pub long_stepped : length news ≡ length cells
     long_stepped =
-        sym (length-map news (λ (content : Content P Op Reply). content.number)) ∙ ap length numbers_stepped ∙ length-map cells (λ (content : Content P Op Reply). content.number)
+        sym (length-map news (λ (content : Content P O R). content.number)) ∙ ap length numbers_stepped ∙ length-map cells (λ (content : Content P O R). content.number)
 
     held_stepped : AreHeld v.notes news
     held_stepped = go reach refl made where
@@ -311,8 +309,8 @@ module _ {S L P : Type 0} (F : Layouts S L P Op Reply) (laws : AreLaws F) (decla
       go (One p) e made' =
           let is = stepped_one p e reply news made' in let due = due_is p e in (
             is.0 ∙ ap (λ part. ways.part_reply part op) due,
-            subst (EachPlace (λ place (content : Content P Op Reply). content.part ≡ Some (ways.part_after (part_due ways F.procs v.notes o i p) op))) (sym is.1)
-                (only (λ (content : Content P Op Reply). content.part ≡ Some (ways.part_after (part_due ways F.procs v.notes o i p) op)) (stepped_at ways F.procs p op (one p e).cell)
+            subst (EachPlace (λ place (content : Content P O R). content.part ≡ Some (ways.part_after (part_due ways F.procs v.notes o i p) op))) (sym is.1)
+                (only (λ (content : Content P O R). content.part ≡ Some (ways.part_after (part_due ways F.procs v.notes o i p) op)) (stepped_at ways F.procs p op (one p e).cell)
                 (ap (λ part. Some (ways.part_after part op)) due)),
           )
       go All e made' =
@@ -338,18 +336,18 @@ module _ {S L P : Type 0} (F : Layouts S L P Op Reply) (laws : AreLaws F) (decla
     }
 
     -- once the entry is drawn
-    abbrev entry : Entry Op Reply
+    abbrev entry : Entry O R
     entry = entry_call v (numbers_of news) (Call op) (Replied reply)
 
-    abbrev w : PassView P Op Reply
+    abbrev w : PassView P O R
     w = drawn_at news entry v
 
-    part_is : (k : ℕ) (content : Content P Op Reply) → slice_get news k ≡ Some content → part_noted w.notes content.number ≡ content.part
+    part_is : (k : ℕ) (content : Content P O R) → slice_get news k ≡ Some content → part_noted w.notes content.number ≡ content.part
     part_is k content at =
         told_part (numbers_of news) entry (part_in news) v.notes content.number (held_stepped k content at).noted (each_named news k content at)
         ∙ part_at_once news k content (ap names_once numbers_stepped ∙ once) at
 
-    pub may_give_drawn : (id : ℕ) (log : List Taken) (told : List (Content P Op Reply)) → AreTold w.notes news told → MayGiveBack F declared id (with_log log w) told
+    pub may_give_drawn : (id : ℕ) (log : List Taken) (told : List (Content P O R)) → AreTold w.notes news told → MayGiveBack F declared id (with_log log w) told
     may_give_drawn id log told are =
         let same : numbers_of told ≡ numbers_of cells = told_numbers w.notes news told are ∙ numbers_stepped in
         record {
@@ -370,7 +368,7 @@ module _ {S L P : Type 0} (F : Layouts S L P Op Reply) (laws : AreLaws F) (decla
               };
         }
 
-    pub has_made : (word : ℕ) (new : PassView P Op Reply) → last_stamp v.taker.mine < entry.stamp → new ≡ took steps.Draw word 0 w → HasMade (numbers_of cells) op reply v new
+    pub has_made : (word : ℕ) (new : PassView P O R) → last_stamp v.taker.mine < entry.stamp → new ≡ took steps.Draw word 0 w → HasMade (numbers_of cells) op reply v new
     has_made word new later e =
         let log = step_at steps.Draw word 0 ∷ v.log in
         record {
@@ -388,5 +386,5 @@ module _ {S L P : Type 0} (F : Layouts S L P Op Reply) (laws : AreLaws F) (decla
                 found = None;
                 untold = [];
               })));
-          log = extends_as (ap (λ (x : PassView P Op Reply). x.log) e) (extends_one (step_at steps.Draw word 0) v.log refl);
+          log = extends_as (ap (λ (x : PassView P O R). x.log) e) (extends_one (step_at steps.Draw word 0) v.log refl);
         }

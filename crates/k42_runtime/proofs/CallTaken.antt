@@ -29,8 +29,6 @@ use Rattle.k42_mediator.proofs.NotesTold.{taken_more}
 use Rattle.k42_mediator.proofs.RowTaken.{IsTaking, takes_none, takes_next}
 use Rattle.k42_runtime.specs.Calls.{WasHeld}
 use Rattle.k42_runtime.specs.Reaching.{HasTakenNext, WasRefused, HasTaken, WasStopped, MayGiveBack}
-use Rattle.k42_kinds.specs.declared.operation.Op.{Op}
-use Rattle.k42_kinds.specs.declared.operation.Reply.{Reply}
 
 -- the cells of a row are numbers of cells
 pub row_small : (place o i n : ℕ) → place ≤ 8 → o < 16 → names (row_cells place o i) n ≡ true → n < CELLS
@@ -50,15 +48,15 @@ meets_lock word holder log =
     let lock = step_at steps.Lock word (holder + 1) in
     meets_one lock log (ap (λ b. cond (not b) (lock ∷ []) []) (not_none holder))
 
-kept_waiting : {P : Type 0} (n found : ℕ) (v : PassView P Op Reply) → (found ≡ 0 → ⊥)
+kept_waiting : {P O R : Type 0} (n found : ℕ) (v : PassView P O R) → (found ≡ 0 → ⊥)
     → took steps.Lock (lock_word n) found (locked_view n found v) ≡ took steps.Lock (lock_word n) (found - 1 + 1) v
 kept_waiting n found v other =
     let taken : eqb found 0 ≡ false = grind (arith, nat_tests, other) in
     ap (λ b. took steps.Lock (lock_word n) found (record v { taker = cond b (caller_locked n v.taker) v.taker })) taken
     ∙ ap (λ h. took steps.Lock (lock_word n) h v) (omega (arith, other))
 
-module _ {S L P : Type 0} (F : Layouts S L P Op Reply) (declared : List L) where
-  pub was_refused : (n found : ℕ) (v w : PassView P Op Reply) (cells : List (Content P Op Reply)) → (found ≡ 0 → ⊥) → w ≡ took steps.Lock (lock_word n) found (locked_view n found v)
+module _ {S L P O R : Type 0} (F : Layouts S L P O R) (declared : List L) where
+  pub was_refused : (n found : ℕ) (v w : PassView P O R) (cells : List (Content P O R)) → (found ≡ 0 → ⊥) → w ≡ took steps.Lock (lock_word n) found (locked_view n found v)
       → LockFound n v found → WasRefused F declared (found - 1) n v w cells cells
   was_refused n found v w cells other knows is =
       let back : found ≡ found - 1 + 1 = omega (arith, other) in
@@ -71,7 +69,7 @@ module _ {S L P : Type 0} (F : Layouts S L P Op Reply) (declared : List L) where
       }
 
   -- one cell more
-  pub has_taken_next : (n : ℕ) (v w : PassView P Op Reply) (cell : Content P Op Reply) (cells news : List (Content P Op Reply)) → ComesTo v (taken_view cell (locked_view n 0 v)) w
+  pub has_taken_next : (n : ℕ) (v w : PassView P O R) (cell : Content P O R) (cells news : List (Content P O R)) → ComesTo v (taken_view cell (locked_view n 0 v)) w
       → cell.number ≡ n → v.taker.held ≡ numbers_of cells → names (numbers_of cells) n ≡ false → AreTaken v.notes cells
       → names (cells_noted v.notes) n ≡ false → AreRowsNoted F declared w → news ≡ cells ++ cell ∷ [] → HasTakenNext F declared n v w cells news
   has_taken_next n v w cell cells news comes number held another taken unnoted rows are =
@@ -79,12 +77,12 @@ module _ {S L P : Type 0} (F : Layouts S L P Op Reply) (declared : List L) where
       ap numbers_of are ∙ numbers_more cells (cell ∷ []) ∙ ap (λ m. numbers_of cells ++ m ∷ []) number in
       record {
         numbers = numbers;
-        held = ap (λ (x : PassView P Op Reply). x.taker.held) comes.knows ∙ ap (λ ns. ns ++ n ∷ []) held ∙ sym numbers;
+        held = ap (λ (x : PassView P O R). x.taker.held) comes.knows ∙ ap (λ ns. ns ++ n ∷ []) held ∙ sym numbers;
         taken =
             subst (AreTaken w.notes) (sym are)
-            (subst (λ ns. AreTaken ns (cells ++ cell ∷ [])) (sym (ap (λ (x : PassView P Op Reply). x.notes) comes.knows))
+            (subst (λ ns. AreTaken ns (cells ++ cell ∷ [])) (sym (ap (λ (x : PassView P O R). x.notes) comes.knows))
             (taken_more cell v.notes cells (ap (names (numbers_of cells)) number ∙ another) taken));
-        back = ap (λ (x : PassView P Op Reply). x.out) comes.knows;
+        back = ap (λ (x : PassView P O R). x.out) comes.knows;
         released_is =
             (λ i. released (numbers i) (comes.knows i))
             ∙ ap (with_log w.log) (released_taken (numbers_of cells) n cell v number (ap (λ ns. names ns n) held ∙ another) unnoted);
@@ -93,7 +91,7 @@ module _ {S L P : Type 0} (F : Layouts S L P Op Reply) (declared : List L) where
       }
 
   -- cells that were taken may be put back
-  pub may_give : AreLaws F → (id : ℕ) (v : PassView P Op Reply) (contents : List (Content P Op Reply)) → names_once (numbers_of contents) ≡ true → v.out ≡ None
+  pub may_give : AreLaws F → (id : ℕ) (v : PassView P O R) (contents : List (Content P O R)) → names_once (numbers_of contents) ≡ true → v.out ≡ None
       → v.taker.held ≡ numbers_of contents → AreTaken v.notes contents → ((n : ℕ) → names (numbers_of contents) n ≡ true → n < CELLS)
       → MayGiveBack F declared id v contents
   may_give laws id v contents once back held taken few = record {
@@ -108,7 +106,7 @@ module _ {S L P : Type 0} (F : Layouts S L P Op Reply) (declared : List L) where
   }
 
   -- so may those of a pass that was refused another
-  pub may_give_stopped : AreLaws F → (id holder n : ℕ) (v w : PassView P Op Reply) (contents : List (Content P Op Reply)) → w ≡ took steps.Lock (lock_word n) (holder + 1) v
+  pub may_give_stopped : AreLaws F → (id holder n : ℕ) (v w : PassView P O R) (contents : List (Content P O R)) → w ≡ took steps.Lock (lock_word n) (holder + 1) v
       → names_once (numbers_of contents) ≡ true → v.out ≡ None → v.taker.held ≡ numbers_of contents → AreTaken v.notes contents
       → ((n : ℕ) → names (numbers_of contents) n ≡ true → n < CELLS) → MayGiveBack F declared id w contents
   may_give_stopped laws id holder n v w contents e once back held taken few =
@@ -117,27 +115,27 @@ module _ {S L P : Type 0} (F : Layouts S L P Op Reply) (declared : List L) where
 
 -- so many cells of the row are taken
 pub record IsTakingRow
-    {S L P : Type 0} (F : Layouts S L P Op Reply) (declared : List L) (o i place : ℕ) (first now : PassSeen P Op Reply)
-    (cells : List (Content P Op Reply)) (len room_before room : ℕ)
+    {S L P O R : Type 0} (F : Layouts S L P O R) (declared : List L) (o i place : ℕ) (first now : PassSeen P O R)
+    (cells : List (Content P O R)) (len room_before room : ℕ)
     : Type 0 where
   pub taking : IsTaking F declared o i place first now [] cells 0 len room_before room
   pub back : now.view.out ≡ None
 
-module _ {S L P : Type 0} (F : Layouts S L P Op Reply) (declared : List L) (o i : ℕ) (first : PassSeen P Op Reply) (room_before : ℕ) where
-  pub row_none : (cells : List (Content P Op Reply)) (len : ℕ) → cells ≡ [] → len ≡ 0 → first.view.taker.held ≡ [] → first.view.out ≡ None
+module _ {S L P O R : Type 0} (F : Layouts S L P O R) (declared : List L) (o i : ℕ) (first : PassSeen P O R) (room_before : ℕ) where
+  pub row_none : (cells : List (Content P O R)) (len : ℕ) → cells ≡ [] → len ≡ 0 → first.view.taker.held ≡ [] → first.view.out ≡ None
       → IsTakingRow F declared o i 0 first first cells len room_before room_before
   row_none cells len none zero held back =
-      subst (λ (z : List (Content P Op Reply) × ℕ). IsTakingRow F declared o i 0 first first z.0 z.1 room_before room_before) (λ j. (sym none j, sym zero j))
+      subst (λ (z : List (Content P O R) × ℕ). IsTakingRow F declared o i 0 first first z.0 z.1 room_before room_before) (λ j. (sym none j, sym zero j))
       (record { taking = takes_none F declared o i first [] 0 room_before held (λ k content at. absurd (cc)); back = back })
 
-  module _ (place : ℕ) (now : PassSeen P Op Reply) (cells : List (Content P Op Reply)) (len room : ℕ) (is : IsTakingRow F declared o i place first now cells len room_before room) where
-    pub row_stopped : (holder n : ℕ) (new : PassSeen P Op Reply) (contents : List (Content P Op Reply)) → n ≡ cell_of o i place → place < PROCESSORS
+  module _ (place : ℕ) (now : PassSeen P O R) (cells : List (Content P O R)) (len room : ℕ) (is : IsTakingRow F declared o i place first now cells len room_before room) where
+    pub row_stopped : (holder n : ℕ) (new : PassSeen P O R) (contents : List (Content P O R)) → n ≡ cell_of o i place → place < PROCESSORS
         → WasRefused F declared holder n now.view new.view cells contents → WasStopped F declared holder o first.view new.view contents
     row_stopped holder n new contents named there was =
         let word = lock_word (cell_of o i place) in let lock = step_at steps.Lock word (holder + 1) in
         let knows : new.view ≡ took steps.Lock word (holder + 1) now.view = was.knows ∙ ap (λ m. took steps.Lock (lock_word m) (holder + 1) now.view) named in
-        let log = ap (λ (v : PassView P Op Reply). v.log) knows in
-        let number : now.view.number ≡ first.view.number = ap (λ (v : PassView P Op Reply). v.number) is.taking.released_is in
+        let log = ap (λ (v : PassView P O R). v.log) knows in
+        let number : now.view.number ≡ first.view.number = ap (λ (v : PassView P O R). v.number) is.taking.released_is in
         record {
           released_is =
               (λ j. released (numbers_of (was.same j)) (knows j)) ∙ ap (with_log (lock ∷ now.view.log)) is.taking.released_is
@@ -152,14 +150,14 @@ module _ {S L P : Type 0} (F : Layouts S L P Op Reply) (declared : List L) (o i 
           };
         }
 
-    pub row_may_give : AreLaws F → place ≤ 8 → o < 16 → (holder n : ℕ) (id : ℕ) (w : PassView P Op Reply) (contents : List (Content P Op Reply)) → contents ≡ cells
+    pub row_may_give : AreLaws F → place ≤ 8 → o < 16 → (holder n : ℕ) (id : ℕ) (w : PassView P O R) (contents : List (Content P O R)) → contents ≡ cells
         → w ≡ took steps.Lock (lock_word n) (holder + 1) now.view → MayGiveBack F declared id w contents
     row_may_give laws few object holder n id w contents same e =
         subst (MayGiveBack F declared id w) (sym same)
         (may_give_stopped F declared laws id holder n now.view w cells e (ap names_once is.taking.numbers ∙ row_once place o i few) is.back is.taking.held is.taking.taken
         (λ m named. row_small place o i m few object (ap (λ ns. names ns m) (sym is.taking.numbers) ∙ named)))
 
-    pub row_next : (new : PassSeen P Op Reply) (more : List (Content P Op Reply)) (len' room' n : ℕ) → n ≡ cell_of o i place
+    pub row_next : (new : PassSeen P O R) (more : List (Content P O R)) (len' room' n : ℕ) → n ≡ cell_of o i place
         → IsSamePass now new → room' ≡ room → len' ≡ len + 1 → HasTakenNext F declared n now.view new.view cells more
         → IsTakingRow F declared o i (place + 1) first new more len' room_before room'
     row_next new more len' room' n named same room_is long next = record {
@@ -194,9 +192,9 @@ or_left false e = absurd (cc)
 pub named_only : (n m : ℕ) → names (n ∷ []) m ≡ true → n ≡ m
 named_only n m e = eqb-true n m (or_left (eqb n m) e)
 
-module _ {S L P : Type 0} (F : Layouts S L P Op Reply) (declared : List L) where
+module _ {S L P O R : Type 0} (F : Layouts S L P O R) (declared : List L) where
   -- it was taken
-  pub taken_alone : (n : ℕ) (old new : PassView P Op Reply) (news : List (Content P Op Reply)) → HasTakenNext F declared n old new [] news → HasTaken F declared (n ∷ []) old new news
+  pub taken_alone : (n : ℕ) (old new : PassView P O R) (news : List (Content P O R)) → HasTakenNext F declared n old new [] news → HasTaken F declared (n ∷ []) old new news
   taken_alone n old new news next = record {
     numbers = next.numbers;
     held = next.held ∙ next.numbers;
@@ -207,10 +205,10 @@ module _ {S L P : Type 0} (F : Layouts S L P Op Reply) (declared : List L) where
   }
 
   -- another caller has it
-  pub refused_alone : (o i p n holder : ℕ) (old new : PassView P Op Reply) → n ≡ cell_of o i p → p < PROCESSORS → WasRefused F declared holder n old new [] []
+  pub refused_alone : (o i p n holder : ℕ) (old new : PassView P O R) → n ≡ cell_of o i p → p < PROCESSORS → WasRefused F declared holder n old new [] []
       → (new ≡ with_log new.log old) × WasHeld o holder old new
   refused_alone o i p n holder old new named there was =
-      let log = ap (λ (v : PassView P Op Reply). v.log) was.knows in let word = lock_word n in (
+      let log = ap (λ (v : PassView P O R). v.log) was.knows in let word = lock_word n in (
         was.knows ∙ ap (λ l. with_log l old) (sym log),
         record {
           incarnation = i;

@@ -15,7 +15,6 @@ pub mod RowsReclaimed
 pub mod CallStepped
 pub mod CallTaken
 pub mod CallInside
-pub mod Agreed
 pub mod CallMade
 pub mod CallServed
 pub mod CallWaited

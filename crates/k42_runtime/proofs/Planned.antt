@@ -1,10 +1,11 @@
 -- A plan without a fault is sound.
-use Rattle.std.proofs.Common.{◌≡◌, ℕ, zero, suc, ◌+◌, ◌<◌, ◌≤◌, Bool, true, false, cond, ltb, leb, List, [], ◌∷◌, Some, None, length, refl, subst}
+use Rattle.std.proofs.Common.{◌≡◌, ℕ, zero, suc, ◌+◌, ◌<◌, ◌≤◌, Bool, true, false, cond, ltb, leb, List, [], ◌∷◌, Option, Some, None, length, refl, subst}
 use Rattle.std.proofs.lemmas.Option.{same_Some}
 use Rattle.std.proofs.lemmas.Bool.{and_parts, leb-true, ltb-true}
 use Rattle.k42_limits.specs.declared.TheConstants.{PROCESSORS, OBJECTS, CALLERS}
 use Rattle.k42_places.specs.Places.{EachPlace}
-use Rattle.k42_runtime.specs.Plans.{PlanSeen, plan_fault, stray_from, is_within, IsSoundPlan}
+use Rattle.k42_runtime.specs.Plans.{PlanSeen, plan_fault, stray_from, dead_from, or_else, is_within, IsSoundPlan}
+use Rattle.k42_runtime.specs.declared.plan.PlanFault.{PlanFault}
 use Rattle.k42_runtime.specs.declared.plan.PlanFault.TheVariants as faults
 
 within : (limit count : ℕ) → is_within limit count ≡ true → (0 < count) × (count ≤ limit)
@@ -24,10 +25,29 @@ placed procs first (here ∷ homes) e = go (ltb here procs) refl e (placed procs
   go true is none others = placed_behind procs first here homes (others none) (ltb-true here procs is)
   go false is none others = absurd (cc)
 
-pub sound : (plan : PlanSeen) → plan_fault plan.procs plan.objects plan.callers ≡ None → IsSoundPlan plan
-sound plan = by_procs (is_within PROCESSORS plan.procs) refl where
+-- and where no object is dead, each is live
+alive_behind : {L : Type 0} (is_live : L → Bool) (here : L) (layouts : List L) → EachPlace (λ o layout. is_live layout ≡ true) layouts → is_live here ≡ true
+    → EachPlace (λ o layout. is_live layout ≡ true) (here ∷ layouts)
+alive_behind is_live here layouts others is zero layout at = subst (λ (l : _). is_live l ≡ true) (same_Some here layout at) is
+alive_behind is_live here layouts others is (suc o) layout at = others o layout at
+
+alive : {L : Type 0} (is_live : L → Bool) (first : ℕ) (layouts : List L) → dead_from is_live first layouts ≡ None → EachPlace (λ o layout. is_live layout ≡ true) layouts
+alive is_live first [] e = λ o layout at. absurd (cc)
+alive is_live first (here ∷ layouts) e = go (is_live here) refl e (alive is_live (first + 1) layouts) where
+  go : (b : Bool) → is_live here ≡ b → cond b (dead_from is_live (first + 1) layouts) (Some (faults.Dead first)) ≡ None
+      → (dead_from is_live (first + 1) layouts ≡ None → EachPlace (λ o layout. is_live layout ≡ true) layouts) → EachPlace (λ o layout. is_live layout ≡ true) (here ∷ layouts)
+  go true is none others = alive_behind is_live here layouts (others none) is
+  go false is none others = absurd (cc)
+
+-- neither is there
+neither : (one other : Option PlanFault) → or_else one other ≡ None → (one ≡ None) × (other ≡ None)
+neither None other e = (refl, e)
+neither (Some fault) other e = absurd (cc)
+
+pub sound : {L : Type 0} (is_live : L → Bool) (plan : PlanSeen L) → plan_fault is_live plan.procs plan.objects plan.callers ≡ None → IsSoundPlan is_live plan
+sound is_live plan = by_procs (is_within PROCESSORS plan.procs) refl where
   Goal : Bool → Bool → Bool → Type 0
-  Goal a b c = cond a (cond b (cond c (stray_from plan.procs 0 plan.callers) (Some faults.Callers)) (Some faults.Objects)) (Some faults.Procs) ≡ None → IsSoundPlan plan
+  Goal a b c = cond a (cond b (cond c (or_else (stray_from plan.procs 0 plan.callers) (dead_from is_live 0 plan.objects)) (Some faults.Callers)) (Some faults.Objects)) (Some faults.Procs) ≡ None → IsSoundPlan is_live plan
 
   by_callers : (c : Bool) → is_within PROCESSORS plan.procs ≡ true → is_within OBJECTS (length plan.objects) ≡ true → is_within CALLERS (length plan.callers) ≡ c → Goal true true c
   by_callers true a b is = λ e.
@@ -37,10 +57,11 @@ sound plan = by_procs (is_within PROCESSORS plan.procs) refl where
       record {
         turns = record {
           limits = record { some_procs = procs.0; few_procs = procs.1; some_callers = callers.0; few_callers = callers.1 };
-          placed = placed plan.procs 0 plan.callers e;
+          placed = placed plan.procs 0 plan.callers (neither (stray_from plan.procs 0 plan.callers) (dead_from is_live 0 plan.objects) e).0;
         };
         some_objects = objects.0;
         few_objects = objects.1;
+        live = alive is_live 0 plan.objects (neither (stray_from plan.procs 0 plan.callers) (dead_from is_live 0 plan.objects) e).1;
       }
   by_callers false a b is = λ e. absurd (cc)
 

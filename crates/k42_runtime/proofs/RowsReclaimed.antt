@@ -19,8 +19,6 @@ use Rattle.k42_quiesce.specs.Collecting.{HasCollected}
 use Rattle.k42_quiesce.specs.Gracing.{HasGraced, after_tries}
 use Rattle.k42_quiesce.specs.Reclaiming.{Frees, FreesAll, Reclaims, steps_emptying, steps_emptying_row, steps_freeing}
 use Rattle.k42_runtime.specs.Reclaims.{with_rows}
-use Rattle.k42_kinds.specs.declared.operation.Op.{Op}
-use Rattle.k42_kinds.specs.declared.operation.Reply.{Reply}
 
 -- a cell is emptied without meeting anybody, and so is a row
 emptied_alone : (o row p : ℕ) → obstacles (steps_emptying_row o row p) ≡ []
@@ -53,13 +51,13 @@ tries_grow : (holders : List ℕ) (log : List Taken) → Grows log (after_tries 
 tries_grow [] log = grows_same log
 tries_grow (holder ∷ holders) log = grows_on (tries_grow holders log) (grows_one (step_at steps.TakeRole role_word (holder + 1)) (after_tries holders log) refl)
 
-module _ {S L P : Type 0} (F : Layouts S L P Op Reply) (declared : List L) (id : ℕ) (old mid : PassSeen P Op Reply) (more : List Row) (w : PassView P Op Reply)
+module _ {S L P O R : Type 0} (F : Layouts S L P O R) (declared : List L) (id : ℕ) (old mid : PassSeen P O R) (more : List Row) (w : PassView P O R)
     (is : HasCollected more old mid) (graced : HasGraced F declared id mid.view w) where
   -- it serves all rows that the pass has
   pub serves_all : take w.granted w.rows ≡ old.view.rows ++ more
   serves_all =
-      (λ j. take (ap (λ (v : PassView P Op Reply). v.granted) graced.goes.rest j) (ap (λ (v : PassView P Op Reply). v.rows) graced.goes.rest j)) ∙ take-length mid.view.rows
-      ∙ ap (λ (v : PassView P Op Reply). v.rows) is.knows
+      (λ j. take (ap (λ (v : PassView P O R). v.granted) graced.goes.rest j) (ap (λ (v : PassView P O R). v.rows) graced.goes.rest j)) ∙ take-length mid.view.rows
+      ∙ ap (λ (v : PassView P O R). v.rows) is.knows
 
   pub notes_all : w.visitor.noted ≡ notes_due (with_rows more old.view)
   notes_all = ap (λ (x : Visitor). x.noted) graced.goes.visitor ∙ ap notes_due is.knows
@@ -68,5 +66,5 @@ module _ {S L P : Type 0} (F : Layouts S L P Op Reply) (declared : List L) (id :
   pub grows_graced : Grows old.view.log w.log
   grows_graced =
       let tried : List Taken = after_tries graced.holders mid.view.log in
-      let before : Grows old.view.log tried = subst (λ (log : List Taken). Grows log tried) (ap (λ (v : PassView P Op Reply). v.log) is.knows) (tries_grow graced.holders mid.view.log) in
+      let before : Grows old.view.log tried = subst (λ (log : List Taken). Grows log tried) (ap (λ (v : PassView P O R). v.log) is.knows) (tries_grow graced.holders mid.view.log) in
       grows_on (grows_on before (grows_one (step_at steps.TakeRole role_word 0) tried refl)) graced.goes.frees_none

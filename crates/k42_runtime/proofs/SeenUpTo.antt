@@ -1,7 +1,5 @@
 -- What a pass has seen is not later than its last entry.
 use Rattle.std.proofs.Common.{ℕ, ◌<◌, ◌≤◌, List, ap, subst, ⊎_elim, arith}
-use Rattle.k42_kinds.specs.declared.operation.Op.{Op}
-use Rattle.k42_kinds.specs.declared.operation.Reply.{Reply}
 use Rattle.k42_kinds.specs.declared.entry.Entry.{Entry}
 use Rattle.turn_core.specs.Plain.{Caller}
 use Rattle.turn_core.specs.Stamps.{last_stamp}
@@ -21,14 +19,14 @@ use Rattle.k42_board.specs.declared.view.PassView.{PassView}
 use Rattle.k42_board.proofs.OnePass.{known}
 use Rattle.k42_runtime.specs.Calls.{SeesUpTo}
 
-module _ {S L P : Type 0} (F : Layouts S L P Op Reply) (laws : AreLaws F) (declared : List L) where
-  module _ (s : Joined L Op Reply) (sound : IsSound F declared s) (c : ℕ) (there : c < many_callers s) where
-    own_up_to : (f : Entry Op Reply) → In f (mine s c) → f.stamp ≤ last_stamp (mine s c)
+module _ {S L P O R : Type 0} (F : Layouts S L P O R) (laws : AreLaws F) (declared : List L) where
+  module _ (s : Joined L O R) (sound : IsSound F declared s) (c : ℕ) (there : c < many_callers s) where
+    own_up_to : (f : Entry O R) → In f (mine s c) → f.stamp ≤ last_stamp (mine s c)
     own_up_to f is =
         let placed = in_place f (mine s c) is in
         last-above (mine s c) placed.place f (lists-rise s.turns c sound.cells.turns) placed.at
 
-    seen_up_to : (f : Entry Op Reply) → HasSeen s c f → f.stamp ≤ last_stamp (mine s c)
+    seen_up_to : (f : Entry O R) → HasSeen s c f → f.stamp ≤ last_stamp (mine s c)
     seen_up_to f seen =
         ⊎_elim (λ (own : In f (mine s c)). own_up_to f own)
         (λ other. ⊎_elim
@@ -42,8 +40,8 @@ module _ {S L P : Type 0} (F : Layouts S L P Op Reply) (laws : AreLaws F) (decla
         omega (arith, low, high)) other)
         seen
 
-  pub seen_always : (id : ℕ) (v : PassView P Op Reply) → Always F declared id v (SeesUpTo v.number (last_stamp v.taker.mine))
+  pub seen_always : (id : ℕ) (v : PassView P O R) → Always F declared id v (SeesUpTo v.number (last_stamp v.taker.mine))
   seen_always id v table r at entry seen =
       let knows = known F declared table r id v at in
-      subst (λ (xs : List (Entry Op Reply)). entry.stamp ≤ last_stamp xs) (ap (λ (x : Caller Op Reply). x.mine) knows.cells.taker)
+      subst (λ (xs : List (Entry O R)). entry.stamp ≤ last_stamp xs) (ap (λ (x : Caller O R). x.mine) knows.cells.taker)
       (seen_up_to r.state r.sound v.number knows.there entry seen)

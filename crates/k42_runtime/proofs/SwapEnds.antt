@@ -4,8 +4,6 @@ use Rattle.std.specs.Result.{OnErr, OnOk, is_err}
 use Rattle.std.proofs.lemmas.Bool.{ne_eqb}
 use Rattle.std.proofs.lemmas.Option.{same_Some}
 use Rattle.k42_limits.specs.declared.TheConstants.{LAST_INCARNATION}
-use Rattle.k42_kinds.specs.declared.operation.Op.{Op}
-use Rattle.k42_kinds.specs.declared.operation.Reply.{Reply}
 use Rattle.k42_kinds.specs.declared.entry.Act.TheVariants.{Swap}
 use Rattle.k42_kinds.specs.Histories.{is_call}
 use Rattle.k42_kinds.specs.declared.entry.Act.{Act}
@@ -37,7 +35,6 @@ use Rattle.k42_mediator.specs.declared.answers.Marked.TheVariants as marks
 use Rattle.k42_mediator.specs.Swaps.{abandoned_view, HasGivenUp}
 use Rattle.turn_core.specs.Stamps.{last_stamp}
 use Rattle.k42_runtime.specs.Phases.{end_in}
-use Rattle.k42_runtime.specs.Systems.{LIVE}
 use Rattle.k42_runtime.specs.Swaps.{HasFoundFree, IsSameCaller, HasSwapped, HasAbandoned, IsCellHeld, IsEndBy, answer_told, incarnation_told, cell_told}
 use Rattle.k42_runtime.specs.declared.swaps.Swapped.TheVariants as ends
 use Rattle.k42_kinds.specs.declared.entry.To.{To}
@@ -47,7 +44,7 @@ on_error (Err error) failed is = is
 on_error (Ok value) failed is = absurd (cc)
 
 -- an entry that is drawn at no cell
-alone_next : {P : Type 0} (v : PassView P Op Reply) (act : Act Op) (answer : Answer Reply) (object incarnation : ℕ) → last_stamp v.taker.mine < stamp_next v [] → is_call act ≡ false
+alone_next : {P O R : Type 0} (v : PassView P O R) (act : Act O) (answer : Answer R) (object incarnation : ℕ) → last_stamp v.taker.mine < stamp_next v [] → is_call act ≡ false
     → object_begun v.last ≡ object → number_told answer - 1 ≡ incarnation
     → IsNext v object incarnation 0 act answer (entry_alone v act answer)
 alone_next v act answer object incarnation later act_is o i = record {
@@ -67,61 +64,61 @@ alone_next v act answer object incarnation later act_is o i = record {
 }
 
 -- the swap was given up
-pub gave_up : {S L P : Type 0} (F : Layouts S L P Op Reply) (declared : List L) (id object : ℕ) (to : To) (v w x : PassView P Op Reply) → ComesTo v v w
-    → x ≡ with_log x.log (abandoned_view (Swap to) w) → object_begun v.last ≡ object → HasFoundFree v → v.turned ≡ false
-    → object_swapped w ≡ object → (act : Act Op) → act ≡ Swap to → last_stamp w.taker.mine < stamp_next w [] → HasGivenUp F declared id act w x → HasAbandoned object to v x
-gave_up F declared id object to v w x kept knows begun free unturned swapped act same later given =
-    let up = subst (λ (a : Act Op). HasGivenUp F declared id a w x) same given in
+pub gave_up : {S L P O R : Type 0} (F : Layouts S L P O R) (declared : List L) (live id object : ℕ) (to : To) (v w x : PassView P O R) → ComesTo v v w
+    → x ≡ with_log x.log (abandoned_view (Swap to) w) → object_begun v.last ≡ object → HasFoundFree live v → v.turned ≡ false
+    → object_swapped w ≡ object → (act : Act O) → act ≡ Swap to → last_stamp w.taker.mine < stamp_next w [] → HasGivenUp F declared id act w x → HasAbandoned live object to v x
+gave_up {O = O} {R = R} F declared live id object to v w x kept knows begun free unturned swapped act same later given =
+    let up = subst (λ (a : Act O). HasGivenUp F declared id a w x) same given in
     let is : x ≡ with_log x.log (abandoned_view (Swap to) v) =
-    knows ∙ ap (λ (u : PassView _ Op Reply). with_log x.log (abandoned_view (Swap to) u)) kept.knows in
-    let last : x.last ≡ v.last = ap (λ (u : PassView _ Op Reply). u.last) is in
+    knows ∙ ap (λ (u : PassView _ O R). with_log x.log (abandoned_view (Swap to) u)) kept.knows in
+    let last : x.last ≡ v.last = ap (λ (u : PassView _ O R). u.last) is in
     let k : ℕ = incarnation_in (word_begun v.last) in
     let found : ℕ = last_found x.log in
     let entry = entry_alone v (Swap to) (Abandoned (k + 1)) in
     let restored : IsRestored (word_begun w.last) (clears (Opened (object_swapped w)) found) =
-    up.cleared.finds refl (ap (λ (u : PassView _ Op Reply). u.turned) kept.knows ∙ unturned) in
+    up.cleared.finds refl (ap (λ (u : PassView _ O R). u.turned) kept.knows ∙ unturned) in
     record {
       begun = ap object_begun last ∙ begun;
-      free = ap (λ l. begun_in LIVE (word_begun l)) last ∙ free;
+      free = ap (λ l. begun_in live (word_begun l)) last ∙ free;
       entry = entry;
       next =
           subst (λ l. IsNext v object (incarnation_in (word_begun l)) 0 (Swap to) (Abandoned (incarnation_in (word_begun l) + 1)) entry) (sym last)
-          (alone_next v (Swap to) (Abandoned (k + 1)) object k (subst (λ (u : PassView _ Op Reply). last_stamp u.taker.mine < stamp_next u []) kept.knows later) refl begun (less k));
-      drawn = ap (λ (u : PassView _ Op Reply). u.taker.mine) is;
+          (alone_next v (Swap to) (Abandoned (k + 1)) object k (subst (λ (u : PassView _ O R). last_stamp u.taker.mine < stamp_next u []) kept.knows later) refl begun (less k));
+      drawn = ap (λ (u : PassView _ O R). u.taker.mine) is;
       log = up.log;
       since = extends_follows (extends_on kept.log up.since);
       found = found;
       cleared =
-          ap (λ (u : PassView _ Op Reply). u.log) up.cleared.knows
+          ap (λ (u : PassView _ O R). u.log) up.cleared.knows
           ∙ ap (λ (o : ℕ). step_at names.Clear (object_word o) found ∷ up.log) swapped;
       restored =
           subst (λ (z : ℕ × ℕ). IsRestored z.0 (clears (Opened z.1) found))
-          (λ j. (word_begun ((ap (λ (u : PassView _ Op Reply). u.last) kept.knows ∙ sym last) j), swapped j)) restored;
+          (λ j. (word_begun ((ap (λ (u : PassView _ O R). u.last) kept.knows ∙ sym last) j), swapped j)) restored;
     }
   where
     less : (n : ℕ) → n + 1 - 1 ≡ n
     less n = omega arith
 
 -- another swap was under way
-pub refused : {P : Type 0} (object number : ℕ) (to : To) (w x : PassView P Op Reply) → object_begun w.last ≡ object → last_stamp w.taker.mine < stamp_next w []
+pub refused : {P O R : Type 0} (object number : ℕ) (to : To) (w x : PassView P O R) → object_begun w.last ≡ object → last_stamp w.taker.mine < stamp_next w []
     → x ≡ took names.Draw role_word 0 (alone_view (entry_alone w (Swap to) (Busy number)) w) → HasSwapped object to (ends.Busy number) w x
-refused object number to w x begun later knows = record {
-  begun = ap (λ (u : PassView _ Op Reply). object_begun u.last) knows ∙ begun;
+refused {O = O} {R = R} object number to w x begun later knows = record {
+  begun = ap (λ (u : PassView _ O R). object_begun u.last) knows ∙ begun;
   entry = entry_alone w (Swap to) (Busy number);
   next = alone_next w (Swap to) (Busy number) object (number - 1) later refl begun refl;
-  drawn = ap (λ (u : PassView _ Op Reply). u.taker.mine) knows;
+  drawn = ap (λ (u : PassView _ O R). u.taker.mine) knows;
 }
 
 -- what an object that is over answers
-pub record IsOverTo (word : ℕ) (answer : Answer Reply) : Type 0 where
-  pub told : answer ≡ answer_told (end_in word)
-  pub incarnation : (other : ℕ) → incarnation_told (end_in word) other ≡ incarnation_in other
-  pub cell : (object other : ℕ) → cell_told object (end_in word) other ≡ cell_of object (incarnation_in other) 0
-  pub ends : IsEndBy word (end_in word)
+pub record IsOverTo {R : Type 0} (live word : ℕ) (answer : Answer R) : Type 0 where
+  pub told : answer ≡ answer_told (end_in live word)
+  pub incarnation : (other : ℕ) → incarnation_told (end_in live word) other ≡ incarnation_in other
+  pub cell : (object other : ℕ) → cell_told object (end_in live word) other ≡ cell_of object (incarnation_in other) 0
+  pub ends : IsEndBy live word (end_in live word)
 
-pub over_ends : (word : ℕ) (answer : Answer Reply) → is_over_in LIVE word ≡ true → answer_in LIVE word ≡ Some answer → IsOverTo word answer
-over_ends word answer over told = go (eqb (layout_in word) LIVE) (eqb (incarnation_in word) LAST_INCARNATION) refl refl where
-  go : (dead last : Bool) → eqb (layout_in word) LIVE ≡ dead → eqb (incarnation_in word) LAST_INCARNATION ≡ last → IsOverTo word answer
+pub over_ends : {R : Type 0} (live word : ℕ) (answer : Answer R) → is_over_in live word ≡ true → answer_in live word ≡ Some answer → IsOverTo live word answer
+over_ends live word answer over told = go (eqb (layout_in word) live) (eqb (incarnation_in word) LAST_INCARNATION) refl refl where
+  go : (dead last : Bool) → eqb (layout_in word) live ≡ dead → eqb (incarnation_in word) LAST_INCARNATION ≡ last → IsOverTo live word answer
   go true last e f = record {
     told = let same : Some Gone ≡ Some answer = rw e at told in rw e (sym (same_Some Gone answer same));
     incarnation = λ other. rw e refl;
@@ -137,52 +134,52 @@ over_ends word answer over told = go (eqb (layout_in word) LIVE) (eqb (incarnati
   go false false e f = absurd (let no : true ≡ false = sym over ∙ (λ j. e j || f j) in cc)
 
 -- by how many live layouts the object has
-pub told_here : (word : ℕ) (answer : Answer Reply) (many : ℕ) → many ≡ LIVE → answer_in many word ≡ Some answer → answer_in LIVE word ≡ Some answer
-told_here word answer many live told = ap (λ (n : ℕ). answer_in {R = Reply} n word) (sym live) ∙ told
+pub told_here : {R : Type 0} (word : ℕ) (answer : Answer R) (many live : ℕ) → many ≡ live → answer_in many word ≡ Some answer → answer_in live word ≡ Some answer
+told_here {R} word answer many live same told = ap (λ (n : ℕ). answer_in {R = R} n word) (sym same) ∙ told
 
-pub over_here : (word many : ℕ) → many ≡ LIVE → is_over_in many word ≡ true → is_over_in LIVE word ≡ true
-over_here word many live over = ap (λ (n : ℕ). is_over_in n word) (sym live) ∙ over
+pub over_here : (word many live : ℕ) → many ≡ live → is_over_in many word ≡ true → is_over_in live word ≡ true
+over_here word many live same over = ap (λ (n : ℕ). is_over_in n word) (sym same) ∙ over
 
 -- it was told so
-pub marked : {P : Type 0} (object : ℕ) (to : To) (old new : PassSeen P Op Reply) → object_begun old.view.last ≡ object
-    → live_at old.view (object_begun old.view.last) ≡ LIVE → is_over_in LIVE (word_begun old.view.last) ≡ true → HasMarked (Swap to) old new
-    → HasSwapped object to (end_in (word_begun old.view.last)) old.view new.view
-marked object to old new begun live over has =
+pub marked : {P O R : Type 0} (live object : ℕ) (to : To) (old new : PassSeen P O R) → object_begun old.view.last ≡ object
+    → live_at old.view (object_begun old.view.last) ≡ live → is_over_in live (word_begun old.view.last) ≡ true → HasMarked (Swap to) old new
+    → HasSwapped object to (end_in live (word_begun old.view.last)) old.view new.view
+marked {O = O} {R = R} live object to old new begun same over has =
     let word : ℕ = word_begun old.view.last in
-    let is = over_ends word has.answer over (told_here word has.answer (live_at old.view (object_begun old.view.last)) live has.told) in
-    let last : new.view.last ≡ old.view.last = ap (λ (u : PassView _ Op Reply). u.last) has.comes.knows in
+    let is = over_ends live word has.answer over (told_here word has.answer (live_at old.view (object_begun old.view.last)) live same has.told) in
+    let last : new.view.last ≡ old.view.last = ap (λ (u : PassView _ O R). u.last) has.comes.knows in
     record {
       begun = ap object_begun last ∙ begun;
       entry = has.entry;
       next =
-          subst (λ l. IsNext old.view object (incarnation_told (end_in word) (word_begun l)) (cell_told object (end_in word) (word_begun l)) (Swap to) (answer_told (end_in word)) has.entry)
+          subst (λ l. IsNext old.view object (incarnation_told (end_in live word) (word_begun l)) (cell_told object (end_in live word) (word_begun l)) (Swap to) (answer_told (end_in live word)) has.entry)
           (sym last)
-          (subst (λ (x : ℕ × ℕ × ℕ × Answer Reply). IsNext old.view x.0 x.1 x.2 (Swap to) x.3 has.entry)
+          (subst (λ (x : ℕ × ℕ × ℕ × Answer R). IsNext old.view x.0 x.1 x.2 (Swap to) x.3 has.entry)
           (λ j. (begun j, sym (is.incarnation word) j, ((λ k. cell_of (begun k) (incarnation_in word) 0) ∙ sym (is.cell object word)) j, is.told j))
           has.next);
-      drawn = ap (λ (u : PassView _ Op Reply). u.taker.mine) has.comes.knows;
+      drawn = ap (λ (u : PassView _ O R). u.taker.mine) has.comes.knows;
     }
 
 -- the cell was held
-pub found_held : {P : Type 0} (holder : ℕ) (v w : PassView P Op Reply) → w ≡ took names.Lock (lock_word (cell_marked v)) (holder + 1) (locked_view (cell_marked v) (holder + 1) v)
-    → LockFound (cell_marked v) v (holder + 1) → is_over_in LIVE (word_begun v.last) ≡ true
-    → (w ≡ took names.Lock (lock_word (cell_marked v)) (holder + 1) v) × IsCellHeld holder v w
-found_held holder v w is finds over =
+pub found_held : {P O R : Type 0} (live holder : ℕ) (v w : PassView P O R) → w ≡ took names.Lock (lock_word (cell_marked v)) (holder + 1) (locked_view (cell_marked v) (holder + 1) v)
+    → LockFound (cell_marked v) v (holder + 1) → is_over_in live (word_begun v.last) ≡ true
+    → (w ≡ took names.Lock (lock_word (cell_marked v)) (holder + 1) v) × IsCellHeld live holder v w
+found_held {O = O} {R = R} live holder v w is finds over =
     let n : ℕ = cell_marked v in
     let knows : w ≡ took names.Lock (lock_word n) (holder + 1) v =
     is ∙ ap (λ (b : Bool). took names.Lock (lock_word n) (holder + 1) (record v { taker = cond b (caller_locked n v.taker) v.taker })) (ne_eqb (holder + 1) 0 (some holder)) in
     let few = finds.small in (
       knows,
       record {
-        over = ap (λ (u : PassView _ Op Reply). is_over_in LIVE (word_begun u.last)) knows ∙ over;
+        over = ap (λ (u : PassView _ O R). is_over_in live (word_begun u.last)) knows ∙ over;
         locked = record {
           gained = [];
           log =
-              ap (λ (u : PassView _ Op Reply). u.log) knows
-              ∙ ap (λ (m : ℕ). step_at names.Lock (lock_word m) (holder + 1) ∷ v.log) (sym (ap (λ (u : PassView _ Op Reply). cell_marked u) knows));
+              ap (λ (u : PassView _ O R). u.log) knows
+              ∙ ap (λ (m : ℕ). step_at names.Lock (lock_word m) (holder + 1) ∷ v.log) (sym (ap (λ (u : PassView _ O R). cell_marked u) knows));
           meets_none = refl;
         };
-        another = λ same. finds.another (ap (λ (k : ℕ). k + 1) (same ∙ ap (λ (u : PassView _ Op Reply). u.number) knows));
+        another = λ same. finds.another (ap (λ (k : ℕ). k + 1) (same ∙ ap (λ (u : PassView _ O R). u.number) knows));
         caller = omega (arith, few);
       },
     )
@@ -191,7 +188,7 @@ found_held holder v w is finds over =
     some n none = omega (arith, none)
 
 -- the mark tells so
-pub held_answer : {S L P : Type 0} (words : LayoutWords S L P Op Reply) (sys : SysSeen L) (answer : Marked) (holder : ℕ) (act : Act Op) (old new : PassSeen P Op Reply) → answer ≡ marks.Held holder
+pub held_answer : {S L P O R : Type 0} (words : LayoutWords S L P O R) (sys : SysSeen L) (answer : Marked) (holder : ℕ) (act : Act O) (old new : PassSeen P O R) → answer ≡ marks.Held holder
     → IsMarkAnswer words sys answer act old new → IsHeldBy words sys holder old new
 held_answer words sys answer holder act old new is has = subst (λ (a : Marked). IsMarkAnswer words sys a act old new) is has
 
@@ -200,9 +197,9 @@ on_done (Ok value) failed is = is
 on_done (Err error) failed is = absurd (cc)
 
 -- the swap has ended, and its steps have met nothing
-pub cleared_log : {P : Type 0} (found : ℕ) (v w : PassView P Op Reply) → w ≡ took names.Clear (object_word (object_swapped v)) found (cleared_view v) → Extends v.log w.log
-cleared_log {P} found v w is =
-    extends_as (ap (λ (u : PassView P Op Reply). u.log) is ∙ ap (λ log. step_at names.Clear (object_word (object_swapped v)) found ∷ log) (go (is_moved v.visitor.swap)))
+pub cleared_log : {P O R : Type 0} (found : ℕ) (v w : PassView P O R) → w ≡ took names.Clear (object_word (object_swapped v)) found (cleared_view v) → Extends v.log w.log
+cleared_log {P} {O} {R} found v w is =
+    extends_as (ap (λ (u : PassView P O R). u.log) is ∙ ap (λ log. step_at names.Clear (object_word (object_swapped v)) found ∷ log) (go (is_moved v.visitor.swap)))
     (extends_one (step_at names.Clear (object_word (object_swapped v)) found) v.log refl)
   where
     go : (b : Bool)
@@ -212,28 +209,28 @@ cleared_log {P} found v w is =
 
 -- what stays of the pass
 
-module _ {P : Type 0} (act : Act Op) (old new : PassSeen P Op Reply) (has : HasMarked act old new) where
+module _ {P O R : Type 0} (act : Act O) (old new : PassSeen P O R) (has : HasMarked act old new) where
   pub marked_last : new.view.last ≡ old.view.last
-  marked_last = ap (λ (u : PassView _ Op Reply). u.last) has.comes.knows
+  marked_last = ap (λ (u : PassView _ O R). u.last) has.comes.knows
 
   pub marked_caller : IsSameCaller old.view new.view
   marked_caller = record {
-    number = ap (λ (u : PassView _ Op Reply). u.number) has.comes.knows;
-    proc = ap (λ (u : PassView _ Op Reply). u.turn.proc) has.comes.knows;
+    number = ap (λ (u : PassView _ O R). u.number) has.comes.knows;
+    proc = ap (λ (u : PassView _ O R). u.turn.proc) has.comes.knows;
   }
 
   pub marked_graces : new.view.graces ≡ old.view.graces
-  marked_graces = ap (λ (u : PassView _ Op Reply). u.graces) has.comes.knows
+  marked_graces = ap (λ (u : PassView _ O R). u.graces) has.comes.knows
 
-module _ {P : Type 0} (act : Act Op) (v w x : PassView P Op Reply) (kept : w ≡ with_log w.log v) (knows : x ≡ with_log x.log (abandoned_view act w)) where
+module _ {P O R : Type 0} (act : Act O) (v w x : PassView P O R) (kept : w ≡ with_log w.log v) (knows : x ≡ with_log x.log (abandoned_view act w)) where
   pub abandoned_caller : IsSameCaller v x
   abandoned_caller = record {
-    number = ap (λ (u : PassView _ Op Reply). u.number) knows ∙ ap (λ (u : PassView _ Op Reply). u.number) kept;
-    proc = ap (λ (u : PassView _ Op Reply). u.turn.proc) knows ∙ ap (λ (u : PassView _ Op Reply). u.turn.proc) kept;
+    number = ap (λ (u : PassView _ O R). u.number) knows ∙ ap (λ (u : PassView _ O R). u.number) kept;
+    proc = ap (λ (u : PassView _ O R). u.turn.proc) knows ∙ ap (λ (u : PassView _ O R). u.turn.proc) kept;
   }
 
   pub abandoned_graces : x.graces ≡ v.graces
-  abandoned_graces = ap (λ (u : PassView _ Op Reply). u.graces) knows ∙ ap (λ (u : PassView _ Op Reply). u.graces) kept
+  abandoned_graces = ap (λ (u : PassView _ O R). u.graces) knows ∙ ap (λ (u : PassView _ O R). u.graces) kept
 
 -- a swap that is over begins no grace any more
 pub few : (new old due : ℕ) → new ≡ old → new + 0 ≤ old + due

@@ -16,35 +16,33 @@ use Rattle.k42_mediator.specs.declared.answers.Moving.TheVariants as answers
 use Rattle.k42_runtime.specs.Phases.{HasGoneOn}
 use Rattle.k42_runtime.specs.Swaps.{SwapSeen, IsInFlight}
 use Rattle.k42_runtime.specs.declared.swaps.Stage.TheVariants.{Shut}
-use Rattle.k42_kinds.specs.declared.operation.Op.{Op}
-use Rattle.k42_kinds.specs.declared.operation.Reply.{Reply}
 
 -- the step that has found this
-abbrev tried : {P : Type 0} → ℕ → PassView P Op Reply → PassView P Op Reply
+abbrev tried : {P O R : Type 0} → ℕ → PassView P O R → PassView P O R
 tried found v = took names.Move (object_word (object_swapped v)) found (moved_view found v)
 
 -- callers that are counted keep it where it is
-counted_now : {P : Type 0} (found count : ℕ) (v : PassView P Op Reply) → moving_in v found ≡ answers.InFlight count → (count ≡ count_in found) × (moved_view found v ≡ v)
+counted_now : {P O R : Type 0} (found count : ℕ) (v : PassView P O R) → moving_in v found ≡ answers.InFlight count → (count ≡ count_in found) × (moved_view found v ≡ v)
 counted_now found count v = go (eqb found (blocked_word v)) where
   go : (b : Bool) → cond b answers.Moved (answers.InFlight (count_in found)) ≡ answers.InFlight count
       → (count ≡ count_in found) × (cond b (at_swap v (Moved (object_swapped v))) v ≡ v)
   go true e = absurd (cc)
   go false e = (cc, refl)
 
-pub in_flight : {P : Type 0} (found count : ℕ) (v w : PassView P Op Reply) → w ≡ tried found v → moving_in v found ≡ answers.InFlight count → 0 < count
+pub in_flight : {P O R : Type 0} (found count : ℕ) (v w : PassView P O R) → w ≡ tried found v → moving_in v found ≡ answers.InFlight count → 0 < count
     → (w ≡ took names.Move (object_word (object_swapped v)) found v) × IsInFlight count v w
-in_flight found count v w is answer some =
+in_flight {O = O} {R = R} found count v w is answer some =
     let counted = counted_now found count v answer in
     let knows : w ≡ took names.Move (object_word (object_swapped v)) found v =
-    is ∙ ap (λ (u : PassView _ Op Reply). took names.Move (object_word (object_swapped v)) found u) counted.1 in (
+    is ∙ ap (λ (u : PassView _ O R). took names.Move (object_word (object_swapped v)) found u) counted.1 in (
       knows,
       record {
         found = found;
         moved = record {
           gained = [];
           log =
-              ap (λ (u : PassView _ Op Reply). u.log) knows
-              ∙ ap (λ (o : ℕ). step_at names.Move (object_word o) found ∷ v.log) (sym (ap (λ (u : PassView _ Op Reply). object_swapped u) knows));
+              ap (λ (u : PassView _ O R). u.log) knows
+              ∙ ap (λ (o : ℕ). step_at names.Move (object_word o) found ∷ v.log) (sym (ap (λ (u : PassView _ O R). object_swapped u) knows));
           meets_none = refl;
         };
         count_is = counted.0;
@@ -53,7 +51,7 @@ in_flight found count v w is answer some =
     )
 
 -- and where nobody is, nothing is met
-nobody : {P : Type 0} (found : ℕ) (v : PassView P Op Reply) → moving_in v found ≡ answers.Moved → CountFound v found → count_in found ≡ 0
+nobody : {P O R : Type 0} (found : ℕ) (v : PassView P O R) → moving_in v found ≡ answers.Moved → CountFound v found → count_in found ≡ 0
 nobody found v answer is = go (eqb found (blocked_word v)) refl answer where
   none : (f b c : ℕ) → f ≡ b + c → f ≡ b → c ≡ 0
   none f b c first second = omega (arith, first, second)
@@ -62,9 +60,9 @@ nobody found v answer is = go (eqb found (blocked_word v)) refl answer where
   go true e same = let counted = is.counted in none found (blocked_word v) (count_in found) counted (eqb-true found (blocked_word v) e)
   go false e same = absurd (cc)
 
-pub moves_on : {P : Type 0} (s : SwapSeen) (old new : PassSeen P Op Reply) (found : ℕ) → s.stage ≡ Shut → IsSamePass old new → new.view ≡ tried found old.view
+pub moves_on : {P O R : Type 0} (s : SwapSeen) (old new : PassSeen P O R) (found : ℕ) → s.stage ≡ Shut → IsSamePass old new → new.view ≡ tried found old.view
     → moving_in old.view found ≡ answers.Moved → CountFound old.view found → HasGoneOn s s old new
-moves_on {P} s old new found shut same knows answer counted = record {
+moves_on {P} {O} {R} s old new found shut same knows answer counted = record {
   object = refl;
   to = refl;
   seat = same.seat;
@@ -83,22 +81,22 @@ moves_on {P} s old new found shut same knows answer counted = record {
   met = rw (nobody found old.view answer counted) refl
 
   stays_log : new.view.log ≡ (tried found old.view).log
-  stays_log = ap (λ (u : PassView P Op Reply). u.log) knows
+  stays_log = ap (λ (u : PassView P O R). u.log) knows
 
   at_log : (b : Bool) → (cond b (at_swap old.view (Moved (object_swapped old.view))) old.view).log ≡ old.view.log
   at_log true = refl
   at_log false = refl
 
-  moved : PassView P Op Reply
+  moved : PassView P O R
   moved = took names.Move (object_word (object_swapped old.view)) found (at_swap old.view (Moved (object_swapped old.view)))
 
-  kept : PassView P Op Reply
+  kept : PassView P O R
   kept = took names.Move (object_word (object_swapped old.view)) found old.view
 
-  in_both : {X : Type 0} (field : PassView P Op Reply → X) (b : Bool) → field moved ≡ field old.view → field kept ≡ field old.view
+  in_both : {X : Type 0} (field : PassView P O R → X) (b : Bool) → field moved ≡ field old.view → field kept ≡ field old.view
       → field (took names.Move (object_word (object_swapped old.view)) found (cond b (at_swap old.view (Moved (object_swapped old.view))) old.view)) ≡ field old.view
   in_both field true first second = first
   in_both field false first second = second
 
-  stays : {X : Type 0} (field : PassView P Op Reply → X) → field moved ≡ field old.view → field kept ≡ field old.view → field new.view ≡ field old.view
+  stays : {X : Type 0} (field : PassView P O R → X) → field moved ≡ field old.view → field kept ≡ field old.view → field new.view ≡ field old.view
   stays field first second = ap field knows ∙ in_both field (eqb found (blocked_word old.view)) first second

@@ -5,8 +5,10 @@ use Rattle.k42_board.specs.Seen.{PassSeen}
 use Rattle.k42_board.specs.declared.view.PassView.{PassView}
 use Rattle.k42_board.specs.declared.view.Row.{Row}
 use Rattle.k42_runtime.specs.Phases.{last_step}
-use Rattle.k42_runtime.specs.Swaps.{SwapSeen, IsAtStage, IsWornOut, HasNotBegun, HasAbandoned, HasStepped, HasEnded, StepsWithoutMemory, EndsWithoutMemory, is_over, graces_due}
-use Rattle.k42_runtime.specs.Systems.{SystemSeen, IsPassHere, IsAtRest, SystemPass}
+use Rattle.k42_runtime.specs.Swaps.{SwapSeen, IsAtStage, IsWornOut, HasNotBegun, HasAbandoned, HasBrought, HasStepped, HasEnded, IsEndBy, StepsWithoutMemory, EndsWithoutMemory, is_over, graces_due}
+use Rattle.k42_shapes.specs.declared.shape.Shape.{Shape}
+use Rattle.k42_board.specs.Views.{word_begun}
+use Rattle.k42_runtime.specs.Systems.{SystemSeen, IsPassHere, IsAtRest, live_in}
 use Rattle.k42_runtime.specs.declared.swaps.Cause.{Cause}
 use Rattle.k42_runtime.specs.declared.swaps.NoSwap.{NoSwap}
 use Rattle.k42_runtime.specs.declared.swaps.NoSwap.TheVariants as reasons
@@ -15,20 +17,18 @@ use Rattle.k42_runtime.specs.declared.swaps.Stage.TheVariants as stages
 use Rattle.k42_runtime.specs.declared.swaps.Step.{Step}
 use Rattle.k42_runtime.specs.declared.swaps.Step.TheVariants.{Again, Ended, Memory, Worn}
 use Rattle.k42_runtime.specs.declared.swaps.Swapped.{Swapped}
-use Rattle.k42_kinds.specs.declared.operation.Op.{Op}
-use Rattle.k42_kinds.specs.declared.operation.Reply.{Reply}
 use Rattle.k42_kinds.specs.declared.entry.To.{To}
 use Rattle.k42_runtime.proofs.SwapSteps.{HasComeOn, held_follows, same_caller, fewer, swapped_since, memory_since, worn_before}
 
 -- it has been stepped some times, and is not over
-pub record IsStepped (system : SystemSeen) (s t : SwapSeen) (old new : SystemPass) : Type 0 where
+pub record IsStepped {L P O R : Type 0} (system : SystemSeen L) (s t : SwapSeen) (old new : PassSeen P O R) : Type 0 where
   pub here : IsPassHere system new
-  pub stage : IsAtStage t.stage (length system.plan.objects) t new
+  pub stage : IsAtStage t.stage system.sys.shapes t new
   pub going : is_over t.stage ≡ false
   pub comes : HasComeOn s t old new
 
-pub not_stepped : (system : SystemSeen) (s : SwapSeen) (new : SystemPass) → IsPassHere system new
-    → IsAtStage s.stage (length system.plan.objects) s new → is_over s.stage ≡ false → IsStepped system s s new new
+pub not_stepped : {L P O R : Type 0} (system : SystemSeen L) (s : SwapSeen) (new : PassSeen P O R) → IsPassHere system new
+    → IsAtStage s.stage system.sys.shapes s new → is_over s.stage ≡ false → IsStepped system s s new new
 not_stepped system s new here stage going = record {
   here = here;
   stage = stage;
@@ -47,7 +47,7 @@ not_stepped system s new here stage going = record {
   };
 }
 
-pub stepped_again : (system : SystemSeen) (s m t : SwapSeen) (old mid new : SystemPass) (cause : Cause) → IsStepped system s m old mid
+pub stepped_again : {L P O R : Type 0} (system : SystemSeen L) (s m t : SwapSeen) (old mid new : PassSeen P O R) (cause : Cause) → IsStepped system s m old mid
     → HasStepped system (Again cause) m t mid new → IsStepped system s t old new
 stepped_again system s m t old mid new cause is step =
     record {
@@ -61,7 +61,7 @@ stepped_again system s m t old mid new cause is step =
         keep = step.keep ∙ is.comes.keep;
         caller = same_caller old.view mid.view new.view is.comes.caller step.caller;
         drawn = step.brought.0 ∙ is.comes.drawn;
-        log = follows_on is.comes.log (held_follows cause mid.view new.view step.brought.1);
+        log = follows_on is.comes.log (held_follows (live_in system.sys.shapes m.object) cause mid.view new.view step.brought.1);
         graces =
             let first = is.comes.graces in let second = step.graces in
             fewer (old.view.graces + graces_due s.stage s.holder) (mid.view.graces + graces_due m.stage m.holder)
@@ -71,7 +71,7 @@ stepped_again system s m t old mid new cause is step =
       };
     }
 
-pub rests_over : {P : Type 0} (stage : Stage) (objects : ℕ) (t : SwapSeen) (new : PassSeen P Op Reply) → is_over stage ≡ true → IsAtStage stage objects t new
+pub rests_over : {P O R : Type 0} (stage : Stage) (objects : List (List Shape)) (t : SwapSeen) (new : PassSeen P O R) → is_over stage ≡ true → IsAtStage stage objects t new
     → IsAtRest new.view
 rests_over stages.Over objects t new e is = is
 rests_over stages.New objects t new e is = absurd (cc)
@@ -80,19 +80,19 @@ rests_over stages.Shut objects t new e is = absurd (cc)
 rests_over stages.Marking objects t new e is = absurd (cc)
 
 -- nothing was begun
-pub not_begun : {P : Type 0} (v w : PassView P Op Reply) (rows : List Row) (granted : ℕ) → w ≡ record v { rows = rows; granted = granted } → HasNotBegun v w
-not_begun v w rows granted e =
-    e ∙ (λ j. record v { rows = sym (ap (λ (u : PassView _ Op Reply). u.rows) e) j; granted = sym (ap (λ (u : PassView _ Op Reply). u.granted) e) j })
+pub not_begun : {P O R : Type 0} (v w : PassView P O R) (rows : List Row) (granted : ℕ) → w ≡ record v { rows = rows; granted = granted } → HasNotBegun v w
+not_begun {O = O} {R = R} v w rows granted e =
+    e ∙ (λ j. record v { rows = sym (ap (λ (u : PassView _ O R). u.rows) e) j; granted = sym (ap (λ (u : PassView _ O R). u.granted) e) j })
 
-out_of_memory : {P : Type 0} (stage : Stage) (object : ℕ) (to : To) (v w : PassView P Op Reply) → StepsWithoutMemory stage object to v w → EndsWithoutMemory object to v w
-out_of_memory stage object to v w =
-    ⊎_elim (λ (is : (stage ≡ stages.New) × (w ≡ v)). inl (not_begun v w v.rows v.granted is.1)) (λ (is : HasAbandoned object to v w). inr is)
+out_of_memory : {P O R : Type 0} (live : ℕ) (stage : Stage) (object : ℕ) (to : To) (v w : PassView P O R) → StepsWithoutMemory live stage object to v w → EndsWithoutMemory live object to v w
+out_of_memory live stage object to v w =
+    ⊎_elim (λ (is : (stage ≡ stages.New) × (w ≡ v)). inl (not_begun v w v.rows v.granted is.1)) (λ (is : HasAbandoned live object to v w). inr is)
 
 one_grace : (new due old : ℕ) → new + due ≤ old + 1 → new ≤ old + 1
 one_grace new due old le = omega (arith, le)
 
 -- the last step of a swap that was new
-module _ (system : SystemSeen) (s m t : SwapSeen) (old mid new : SystemPass) (first : s.stage ≡ stages.New) (is : IsStepped system s m old mid) where
+module _ {L P O R : Type 0} (system : SystemSeen L) (s m t : SwapSeen) (old mid new : PassSeen P O R) (first : s.stage ≡ stages.New) (is : IsStepped system s m old mid) where
   few : (result : Step) → HasStepped system result m t mid new → new.view.graces ≤ old.view.graces + 1
   few result step =
       let before = is.comes.graces in let after = step.graces in
@@ -108,12 +108,12 @@ module _ (system : SystemSeen) (s m t : SwapSeen) (old mid new : SystemPass) (fi
   pub ended_since : (result : Result Swapped NoSwap) → HasStepped system (last_step result) m t mid new → HasEnded system s.object s.to result old new
   ended_since (Ok end) step = record {
     here = step.here;
-    rests = rests_over t.stage (length system.plan.objects) t new step.over step.stage;
+    rests = rests_over t.stage system.sys.shapes t new step.over step.stage;
     seat = step.seat ∙ is.comes.seat;
     keep = step.keep ∙ is.comes.keep;
     caller = same_caller old.view mid.view new.view is.comes.caller step.caller;
     graces = few (Ended end) step;
-    told = step.told;
+    told = subst (λ (o : ℕ). IsEndBy (live_in system.sys.shapes o) (word_begun new.view.last) end) is.comes.object step.told;
     ended = swapped_since system s m t old mid new is.comes end step.brought.0;
     memory = λ e. absurd (cc);
     worn = (λ e. absurd (cc), λ w. absurd (let never = (worn_since (Ended end) step).1 w in cc));
@@ -121,14 +121,15 @@ module _ (system : SystemSeen) (s m t : SwapSeen) (old mid new : SystemPass) (fi
   }
   ended_since (Err reasons.Memory) step = record {
     here = step.here;
-    rests = rests_over t.stage (length system.plan.objects) t new step.over step.stage;
+    rests = rests_over t.stage system.sys.shapes t new step.over step.stage;
     seat = step.seat ∙ is.comes.seat;
     keep = step.keep ∙ is.comes.keep;
     caller = same_caller old.view mid.view new.view is.comes.caller step.caller;
     graces = few Memory step;
     told = tt;
     ended = tt;
-    memory = λ e. out_of_memory s.stage s.object s.to old.view new.view (memory_since system s m t old mid new is.comes step.brought);
+    memory = λ e. out_of_memory (live_in system.sys.shapes s.object) s.stage s.object s.to old.view new.view (memory_since system s m t old mid new is.comes (live_in system.sys.shapes s.object)
+        (subst (λ (o : ℕ). HasBrought (live_in system.sys.shapes o) Memory m mid new) is.comes.object step.brought));
     worn = (λ e. absurd (cc), λ w. absurd (let never = (worn_since Memory step).1 w in cc));
     kept = λ e. absurd (cc);
   }
@@ -136,7 +137,7 @@ module _ (system : SystemSeen) (s m t : SwapSeen) (old mid new : SystemPass) (fi
       let same : new ≡ old = step.brought ∙ (is.comes.waits (step.worn.0 refl).0).1 in
       record {
         here = step.here;
-        rests = rests_over t.stage (length system.plan.objects) t new step.over step.stage;
+        rests = rests_over t.stage system.sys.shapes t new step.over step.stage;
         seat = step.seat ∙ is.comes.seat;
         keep = step.keep ∙ is.comes.keep;
         caller = same_caller old.view mid.view new.view is.comes.caller step.caller;
@@ -145,5 +146,5 @@ module _ (system : SystemSeen) (s m t : SwapSeen) (old mid new : SystemPass) (fi
         ended = tt;
         memory = λ e. absurd (cc);
         worn = (λ e. (worn_since Worn step).0 refl, λ w. refl);
-        kept = λ e. not_begun old.view new.view old.view.rows old.view.granted (ap (λ (p : SystemPass). p.view) same);
+        kept = λ e. not_begun old.view new.view old.view.rows old.view.granted (ap (λ (p : PassSeen P O R). p.view) same);
       }

@@ -1,22 +1,14 @@
 -- The phases of a swap, one after the other.
 use Rattle.std.specs.Prelude.{◌≡◌, ℕ, ◌+◌, ◌≤◌, ◌==◌, if◌then◌else◌, true, None, Result, Ok, Err}
 use Rattle.gen_core.specs.Events.{is_idle}
-use Rattle.k42_kinds.specs.declared.operation.Op.{Op}
-use Rattle.k42_kinds.specs.declared.operation.Reply.{Reply}
-use Rattle.k42_kinds.specs.declared.entry.To.{To}
-use Rattle.k42_kinds.specs.declared.entry.To.TheVariants as tos
 use Rattle.phase_core.specs.declared.caller.SwapAt.TheVariants.{Moved}
-use Rattle.co_any.specs.Layouts.{tag_named}
 use Rattle.k42_board.specs.Log.{Extends}
 use Rattle.k42_board.specs.Seen.{PassSeen}
 use Rattle.k42_board.specs.Values.{layout_in}
 use Rattle.k42_board.specs.declared.view.PassView.{PassView}
 use Rattle.k42_quiesce.specs.declared.steps.Held.{Held}
 use Rattle.k42_quiesce.specs.declared.steps.Held.TheVariants as graces
-use Rattle.k42_watch.specs.declared.watch.Layer.{Layer}
-use Rattle.k42_watch.specs.declared.watch.Layer.TheVariants.{Keep, Place, Take}
 use Rattle.k42_runtime.specs.Swaps.{SwapSeen, IsSameCaller, IsWornOut, graces_due}
-use Rattle.k42_runtime.specs.Systems.{LIVE}
 use Rattle.k42_runtime.specs.declared.swaps.Cause.{Cause}
 use Rattle.k42_runtime.specs.declared.swaps.Cause.TheVariants as causes
 use Rattle.k42_runtime.specs.declared.swaps.NoSwap.{NoSwap}
@@ -28,29 +20,15 @@ use Rattle.k42_runtime.specs.declared.swaps.Swapped.{Swapped}
 use Rattle.k42_runtime.specs.declared.swaps.Swapped.TheVariants as ends
 
 -- it has begun to move its object, in which nobody is any more, and has not handed the row on
-pub record IsMoving {P : Type 0} (object : ℕ) (v : PassView P Op Reply) : Type 0 where
+pub record IsMoving {P O R : Type 0} (object : ℕ) (v : PassView P O R) : Type 0 where
   pub inactive : v.turn.active ≡ None
   pub grace : is_idle v.turn.grace ≡ true
   pub swap : v.visitor.swap ≡ Moved object
   pub unhanded : v.handed ≡ None
 
--- An object is swapped to this tag: a watch and an unwatch keep the present one.
-abbrev pub tag_to : To → ℕ → ℕ
-tag_to (tos.Layout layout) present = tag_named layout
-tag_to tos.Dead present = LIVE
-tag_to tos.Watch present = present
-tag_to tos.Unwatch present = present
-
--- and a watch places a layer, an unwatch takes it, and every other swap keeps what is there
-abbrev pub layer_to : To → Layer
-layer_to (tos.Layout layout) = Keep
-layer_to tos.Dead = Keep
-layer_to tos.Watch = Place
-layer_to tos.Unwatch = Take
-
--- how a swap ends that found its object over
-abbrev pub end_in : ℕ → Swapped
-end_in word = if layout_in word == LIVE then ends.Gone else ends.Spent
+-- how a swap ends that found its object over, which has so many live layouts
+abbrev pub end_in : ℕ → ℕ → Swapped
+end_in live word = if layout_in word == live then ends.Gone else ends.Spent
 
 -- what holds a swap up whose grace is held up so
 abbrev pub cause_in : Held → Cause
@@ -65,7 +43,7 @@ last_step (Err reasons.Worn) = steps.Worn
 
 -- By steps that draw nothing the swap and its pass have become these, which are the same if it has not begun; one of a pass
 -- that is worn out has not.
-pub record HasGoneOn {P : Type 0} (s t : SwapSeen) (old new : PassSeen P Op Reply) : Type 0 where
+pub record HasGoneOn {P O R : Type 0} (s t : SwapSeen) (old new : PassSeen P O R) : Type 0 where
   pub object : t.object ≡ s.object
   pub to : t.to ≡ s.to
   pub seat : new.seat ≡ old.seat

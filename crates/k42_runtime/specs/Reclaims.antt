@@ -9,17 +9,15 @@ use Rattle.k42_board.specs.declared.view.PassView.{PassView}
 use Rattle.k42_board.specs.declared.view.Row.{Row}
 use Rattle.k42_board.specs.declared.view.Taken.{Taken}
 use Rattle.k42_quiesce.specs.Reclaiming.{Reclaims, AreRowsFreed}
-use Rattle.k42_kinds.specs.declared.operation.Op.{Op}
-use Rattle.k42_kinds.specs.declared.operation.Reply.{Reply}
 
 -- the pass with these rows more
-abbrev pub with_rows : {P : Type 0} → List Row → PassView P Op Reply → PassView P Op Reply
+abbrev pub with_rows : {P O R : Type 0} → List Row → PassView P O R → PassView P O R
 with_rows rows v = record v { rows = v.rows ++ rows }
 
 -- The pass has collected rows that others had handed over; the grace that began then has freed so many rows, and has
 -- dropped their parts; those that it held are free.
 pub record HasReclaimed
-    {S L P : Type 0} (F : Layouts S L P Op Reply) (declared : List L) (count : ℕ) (old new : PassSeen P Op Reply)
+    {S L P O R : Type 0} (F : Layouts S L P O R) (declared : List L) (count : ℕ) (old new : PassSeen P O R)
     : Type 0 where
   pub collected : List Row
   pub popped : new.popped ≡ old.popped ++ collected

@@ -2,11 +2,10 @@
 -- holds one up.
 use Rattle.std.specs.Prelude.{◌≡◌, ◌≢◌, ◌⊎◌, ◌↔◌, ℕ, ◌+◌, ◌-◌, ◌<◌, ◌≤◌, Bool, true, false, ⊤, List, [], ◌∷◌, ◌++◌, length, Option, Some, None, Result, Err, IfOk}
 use Rattle.gen_core.specs.Events as graces
-use Rattle.k42_kinds.specs.declared.operation.Op.{Op}
-use Rattle.k42_kinds.specs.declared.operation.Reply.{Reply}
 use Rattle.k42_kinds.specs.declared.entry.Act.{Act}
 use Rattle.k42_kinds.specs.declared.entry.Act.TheVariants as acts
 use Rattle.k42_kinds.specs.declared.entry.To.{To}
+use Rattle.k42_shapes.specs.declared.shape.Shape.{Shape}
 use Rattle.k42_kinds.specs.declared.entry.Answer.{Answer}
 use Rattle.k42_kinds.specs.declared.entry.Answer.TheVariants as answers
 use Rattle.k42_kinds.specs.declared.entry.Entry.{Entry}
@@ -30,7 +29,7 @@ use Rattle.k42_mediator.specs.declared.answers.Begun.{Begun}
 use Rattle.k42_mediator.specs.declared.answers.Begun.TheVariants as begins
 use Rattle.k42_quiesce.specs.Gracing.{MayStep, IsLeft}
 use Rattle.k42_runtime.specs.Calls.{IsWorn}
-use Rattle.k42_runtime.specs.Systems.{LIVE, SystemSeen, IsPassHere, IsAtRest, SystemPass}
+use Rattle.k42_runtime.specs.Systems.{SystemSeen, IsPassHere, IsAtRest, live_in}
 use Rattle.k42_runtime.specs.declared.swaps.Cause.{Cause}
 use Rattle.k42_runtime.specs.declared.swaps.Cause.TheVariants as causes
 use Rattle.k42_runtime.specs.declared.swaps.NoSwap.{NoSwap}
@@ -50,60 +49,62 @@ pub record SwapSeen : Type 0 where
   pub holder : Option ℕ
 
 -- the answer in the entry
-abbrev pub answer_told : Swapped → Answer Reply
+abbrev pub answer_told : {R : Type 0} → Swapped → Answer R
 answer_told (ends.Done number) = answers.Swapped number
 answer_told (ends.Busy number) = answers.Busy number
 answer_told ends.Spent = answers.Spent
 answer_told ends.Gone = answers.Gone
 
 -- a swap of one of so many objects is under way, and the pass has room for its entry and its row
-pub record IsUnderWay (objects object : ℕ) {P : Type 0} (pass : PassSeen P Op Reply) : Type 0 where
+pub record IsUnderWay (objects object : ℕ) {P O R : Type 0} (pass : PassSeen P O R) : Type 0 where
   pub there : object < objects
   pub entry : HasRoom pass
   pub row : 0 < pass.row_room
   pub few : length pass.view.taker.mine < PASS_ENTRIES
 
 -- a pass that may begin a swap
-pub record MayStart (objects object : ℕ) {P : Type 0} (pass : PassSeen P Op Reply) : Type 0 where
+pub record MayStart (objects object : ℕ) {P O R : Type 0} (pass : PassSeen P O R) : Type 0 where
   pub rests : IsAtRest pass.view
   pub there : object < objects
 
 -- it has drawn all the entries that a pass draws, or has begun all its graces
-abbrev pub IsWornOut : {P : Type 0} → PassView P Op Reply → Type 0
+abbrev pub IsWornOut : {P O R : Type 0} → PassView P O R → Type 0
 IsWornOut v = IsWorn v ⊎ (PASS_GRACES ≤ v.graces)
 
 -- the swap waits for a grace, which has not begun or has the role
-abbrev pub IsWaiting : {P : Type 0} → ℕ → Option ℕ → PassView P Op Reply → Type 0
+abbrev pub IsWaiting : {P O R : Type 0} → ℕ → Option ℕ → PassView P O R → Type 0
 IsWaiting object None v = (v.visitor.swap ≡ Interposed object) × MayStep None v
 IsWaiting object (Some holder) v =
     (v.visitor.swap ≡ Draining object) × (v.turn.active ≡ None) × MayStep (Some holder) v
 
--- its Begin found the object free, alive and with an incarnation left
-abbrev pub HasFoundFree : {P : Type 0} → PassView P Op Reply → Type 0
-HasFoundFree v = begun_in LIVE (word_begun v.last) ≡ begins.Begun
+-- its Begin found the object, which has so many live layouts, free, alive and with an incarnation left
+abbrev pub HasFoundFree : {P O R : Type 0} → ℕ → PassView P O R → Type 0
+HasFoundFree live v = begun_in live (word_begun v.last) ≡ begins.Begun
 
 -- it has blocked its object, and waits for those who are counted
-pub record IsShut {P : Type 0} (object : ℕ) (v : PassView P Op Reply) : Type 0 where
+pub record IsShut {P O R : Type 0} (object : ℕ) (v : PassView P O R) : Type 0 where
   pub inactive : v.turn.active ≡ None
   pub grace : graces.is_idle v.turn.grace ≡ true
   pub swap : v.visitor.swap ≡ Blocking object
 
 -- it found its object over, and has not told so yet
-pub record IsToMark {P : Type 0} (object : ℕ) (act : Act Op) (v : PassView P Op Reply) : Type 0 where
+pub record IsToMark {P O R : Type 0} (object : ℕ) (act : Act O) (v : PassView P O R) : Type 0 where
   pub rests : IsAtRest v
   pub begun : object_begun v.last ≡ object
   pub may : MayMark act v
 
--- The pass is as the last step of the swap left it.
-abbrev pub IsAtStage : {P : Type 0} → Stage → ℕ → SwapSeen → PassSeen P Op Reply → Type 0
-IsAtStage stages.New objects swap pass = (swap.holder ≡ None) × MayStart objects swap.object pass
-IsAtStage stages.Waiting objects swap pass =
-    IsUnderWay objects swap.object pass × HasFoundFree pass.view × IsWaiting swap.object swap.holder pass.view
-IsAtStage stages.Shut objects swap pass =
-    IsUnderWay objects swap.object pass × HasFoundFree pass.view × IsShut swap.object pass.view
-IsAtStage stages.Marking objects swap pass =
-    IsUnderWay objects swap.object pass × IsToMark swap.object (acts.Swap swap.to) pass.view
-IsAtStage stages.Over objects swap pass = IsAtRest pass.view
+-- The pass is as the last step of the swap left it, where the objects' live layouts have these shapes.
+abbrev pub IsAtStage : {P O R : Type 0} → Stage → List (List Shape) → SwapSeen → PassSeen P O R → Type 0
+IsAtStage stages.New shapes swap pass = (swap.holder ≡ None) × MayStart (length shapes) swap.object pass
+IsAtStage stages.Waiting shapes swap pass =
+    IsUnderWay (length shapes) swap.object pass × HasFoundFree (live_in shapes swap.object) pass.view
+    × IsWaiting swap.object swap.holder pass.view
+IsAtStage stages.Shut shapes swap pass =
+    IsUnderWay (length shapes) swap.object pass × HasFoundFree (live_in shapes swap.object) pass.view
+    × IsShut swap.object pass.view
+IsAtStage stages.Marking shapes swap pass =
+    IsUnderWay (length shapes) swap.object pass × IsToMark swap.object (acts.Swap swap.to) pass.view
+IsAtStage stages.Over shapes swap pass = IsAtRest pass.view
 
 abbrev pub is_over : Stage → Bool
 is_over stages.Over = true
@@ -138,18 +139,18 @@ MayHoldUp begins.Spent (causes.CellHeld holder) = ⊤
 MayHoldUp begins.Gone (causes.CellHeld holder) = ⊤
 MayHoldUp answer cause = ⊥
 
--- the word that its Begin found decides, but for want of memory
-abbrev pub IsEndBy : ℕ → Swapped → Type 0
-IsEndBy word end = IsEndTo (begun_in LIVE word) word end
+-- the word that its Begin found decides, and how many live layouts there are, but for want of memory
+abbrev pub IsEndBy : ℕ → ℕ → Swapped → Type 0
+IsEndBy live word end = IsEndTo (begun_in live word) word end
 
-abbrev pub IsStepBy : ℕ → Step → Type 0
-IsStepBy word (steps.Ended end) = IsEndBy word end
-IsStepBy word (steps.Again cause) = MayHoldUp (begun_in LIVE word) cause
-IsStepBy word steps.Memory = ⊤
-IsStepBy word steps.Worn = ⊤
+abbrev pub IsStepBy : ℕ → ℕ → Step → Type 0
+IsStepBy live word (steps.Ended end) = IsEndBy live word end
+IsStepBy live word (steps.Again cause) = MayHoldUp (begun_in live word) cause
+IsStepBy live word steps.Memory = ⊤
+IsStepBy live word steps.Worn = ⊤
 
 -- it is the same caller, on its processor
-pub record IsSameCaller {P : Type 0} (old new : PassView P Op Reply) : Type 0 where
+pub record IsSameCaller {P O R : Type 0} (old new : PassView P O R) : Type 0 where
   pub number : new.number ≡ old.number
   pub proc : new.turn.proc ≡ old.turn.proc
 
@@ -165,52 +166,52 @@ cell_told object (ends.Busy number) word = 0
 cell_told object end word = cell_of object (incarnation_in word) 0
 
 -- The pass has one entry more, that of the swap.
-pub record HasSwapped {P : Type 0} (object : ℕ) (to : To) (end : Swapped) (old new : PassView P Op Reply) : Type 0 where
+pub record HasSwapped {P O R : Type 0} (object : ℕ) (to : To) (end : Swapped) (old new : PassView P O R) : Type 0 where
   pub begun : object_begun new.last ≡ object
-  pub entry : Entry Op Reply
+  pub entry : Entry O R
   pub next :
       IsNext old object (incarnation_told end (word_begun new.last)) (cell_told object end (word_begun new.last))
       (acts.Swap to) (answer_told end) entry
   pub drawn : new.taker.mine ≡ old.taker.mine ++ entry ∷ []
 
 -- nothing was begun: at most it has collected rows, and has handed rows over
-abbrev pub HasNotBegun : {P : Type 0} → PassView P Op Reply → PassView P Op Reply → Type 0
+abbrev pub HasNotBegun : {P O R : Type 0} → PassView P O R → PassView P O R → Type 0
 HasNotBegun old new = new ≡ record old { rows = new.rows; granted = new.granted }
 
 -- What held a swap up: what the last step found that the pass has taken since.
 
 -- so many callers that the mediator of its object counts
-pub record IsInFlight {P : Type 0} (count : ℕ) (old new : PassView P Op Reply) : Type 0 where
+pub record IsInFlight {P O R : Type 0} (count : ℕ) (old new : PassView P O R) : Type 0 where
   pub found : ℕ
   pub moved : EndsWith (step_at names.Move (object_word (object_swapped new)) found) old.log new.log
   pub count_is : count ≡ count_in found
   pub some : 0 < count
 
 -- the first cell of the row that is over, with another caller
-pub record IsCellHeld {P : Type 0} (holder : ℕ) (old new : PassView P Op Reply) : Type 0 where
-  pub over : is_over_in LIVE (word_begun new.last) ≡ true
+pub record IsCellHeld {P O R : Type 0} (live holder : ℕ) (old new : PassView P O R) : Type 0 where
+  pub over : is_over_in live (word_begun new.last) ≡ true
   pub locked : EndsWith (step_at names.Lock (lock_word (cell_marked new)) (holder + 1)) old.log new.log
   pub another : holder ≢ new.number
   pub caller : holder < CALLERS
 
 -- the role, with another caller
-pub record IsRoleElsewhere {P : Type 0} (holder : ℕ) (old new : PassView P Op Reply) : Type 0 where
+pub record IsRoleElsewhere {P O R : Type 0} (holder : ℕ) (old new : PassView P O R) : Type 0 where
   pub tried : EndsWith (step_at names.TakeRole role_word (holder + 1)) old.log new.log
   pub another : holder ≢ new.number
   pub caller : holder < CALLERS
 
-abbrev pub IsHeldUpBy : {P : Type 0} → Cause → PassView P Op Reply → PassView P Op Reply → Type 0
-IsHeldUpBy (causes.Left proc left) old new = IsLeft proc left old new
-IsHeldUpBy (causes.RoleHeld holder) old new = IsRoleElsewhere holder old new
-IsHeldUpBy (causes.InFlight count) old new = IsInFlight count old new
-IsHeldUpBy (causes.CellHeld holder) old new = IsCellHeld holder old new
+abbrev pub IsHeldUpBy : {P O R : Type 0} → ℕ → Cause → PassView P O R → PassView P O R → Type 0
+IsHeldUpBy live (causes.Left proc left) old new = IsLeft proc left old new
+IsHeldUpBy live (causes.RoleHeld holder) old new = IsRoleElsewhere holder old new
+IsHeldUpBy live (causes.InFlight count) old new = IsInFlight count old new
+IsHeldUpBy live (causes.CellHeld holder) old new = IsCellHeld live holder old new
 
 -- A swap that had begun was given up, which its entry tells. The last of its steps has ended it, and has left the object as
 -- it was when the swap began.
-pub record HasAbandoned {P : Type 0} (object : ℕ) (to : To) (old new : PassView P Op Reply) : Type 0 where
+pub record HasAbandoned {P O R : Type 0} (live object : ℕ) (to : To) (old new : PassView P O R) : Type 0 where
   pub begun : object_begun new.last ≡ object
-  pub free : HasFoundFree new
-  pub entry : Entry Op Reply
+  pub free : HasFoundFree live new
+  pub entry : Entry O R
   pub next :
       IsNext old object (incarnation_in (word_begun new.last)) 0 (acts.Swap to)
       (answers.Abandoned (incarnation_in (word_begun new.last) + 1)) entry
@@ -222,29 +223,31 @@ pub record HasAbandoned {P : Type 0} (object : ℕ) (to : To) (old new : PassVie
   pub restored : IsRestored (word_begun new.last) (clears (Opened object) found)
 
 -- A step that finds no memory is the first, and has done nothing, or it gives the swap up.
-abbrev pub StepsWithoutMemory : {P : Type 0} → Stage → ℕ → To → PassView P Op Reply → PassView P Op Reply → Type 0
-StepsWithoutMemory stage object to old new =
-    ((stage ≡ stages.New) × (new ≡ old)) ⊎ HasAbandoned object to old new
+abbrev pub StepsWithoutMemory : {P O R : Type 0} → ℕ → Stage → ℕ → To → PassView P O R → PassView P O R → Type 0
+StepsWithoutMemory live stage object to old new =
+    ((stage ≡ stages.New) × (new ≡ old)) ⊎ HasAbandoned live object to old new
 
 -- and so ends a swap that was waited for
-abbrev pub EndsWithoutMemory : {P : Type 0} → ℕ → To → PassView P Op Reply → PassView P Op Reply → Type 0
-EndsWithoutMemory object to old new = HasNotBegun old new ⊎ HasAbandoned object to old new
+abbrev pub EndsWithoutMemory : {P O R : Type 0} → ℕ → ℕ → To → PassView P O R → PassView P O R → Type 0
+EndsWithoutMemory live object to old new = HasNotBegun old new ⊎ HasAbandoned live object to old new
 
 -- what a step of a swap brings, by its answer
-abbrev pub HasBrought : SystemSeen → Step → SwapSeen → SystemPass → SystemPass → Type 0
-HasBrought system (steps.Ended end) swap old new =
+abbrev pub HasBrought : {P O R : Type 0} → ℕ → Step → SwapSeen → PassSeen P O R → PassSeen P O R → Type 0
+HasBrought live (steps.Ended end) swap old new =
     HasSwapped swap.object swap.to end old.view new.view × Extends old.view.log new.view.log
-HasBrought system (steps.Again cause) swap old new =
-    (new.view.taker.mine ≡ old.view.taker.mine) × IsHeldUpBy cause old.view new.view
-HasBrought system steps.Memory swap old new =
-    StepsWithoutMemory swap.stage swap.object swap.to old.view new.view
-HasBrought system steps.Worn swap old new = new ≡ old
+HasBrought live (steps.Again cause) swap old new =
+    (new.view.taker.mine ≡ old.view.taker.mine) × IsHeldUpBy live cause old.view new.view
+HasBrought live steps.Memory swap old new =
+    StepsWithoutMemory live swap.stage swap.object swap.to old.view new.view
+HasBrought live steps.Worn swap old new = new ≡ old
 
 -- The swap and its pass, once a step has answered so, are where the next one goes on, unless it was the last. Only the first
 -- step of a swap finds its pass worn out.
-pub record HasStepped (system : SystemSeen) (result : Step) (s t : SwapSeen) (old new : SystemPass) : Type 0 where
+pub record HasStepped
+    {L P O R : Type 0} (system : SystemSeen L) (result : Step) (s t : SwapSeen) (old new : PassSeen P O R)
+    : Type 0 where
   pub here : IsPassHere system new
-  pub stage : IsAtStage t.stage (length system.plan.objects) t new
+  pub stage : IsAtStage t.stage system.sys.shapes t new
   pub begun : t.stage ≢ stages.New
   pub over : is_over t.stage ≡ is_last result
   pub object : t.object ≡ s.object
@@ -254,12 +257,13 @@ pub record HasStepped (system : SystemSeen) (result : Step) (s t : SwapSeen) (ol
   pub caller : IsSameCaller old.view new.view
   pub graces :
       new.view.graces + graces_due t.stage t.holder ≤ old.view.graces + graces_due s.stage s.holder
-  pub told : IsStepBy (word_begun new.view.last) result
+  pub told : IsStepBy (live_in system.sys.shapes s.object) (word_begun new.view.last) result
   pub worn : (result ≡ steps.Worn) ↔ ((s.stage ≡ stages.New) × IsWornOut old.view)
-  pub brought : HasBrought system result s old new
+  pub brought : HasBrought (live_in system.sys.shapes s.object) result s old new
 
 -- the pass once a swap has ended that was waited for
-pub record HasEnded (system : SystemSeen) (object : ℕ) (to : To) (result : Result Swapped NoSwap) (old new : SystemPass)
+pub record HasEnded
+    {L P O R : Type 0} (system : SystemSeen L) (object : ℕ) (to : To) (result : Result Swapped NoSwap) (old new : PassSeen P O R)
     : Type 0 where
   pub here : IsPassHere system new
   pub rests : IsAtRest new.view
@@ -267,8 +271,8 @@ pub record HasEnded (system : SystemSeen) (object : ℕ) (to : To) (result : Res
   pub keep : new.keep ≡ old.keep
   pub caller : IsSameCaller old.view new.view
   pub graces : new.view.graces ≤ old.view.graces + 1
-  pub told : IfOk result (IsEndBy (word_begun new.view.last))
+  pub told : IfOk result (IsEndBy (live_in system.sys.shapes object) (word_begun new.view.last))
   pub ended : IfOk result (λ end. HasSwapped object to end old.view new.view)
-  pub memory : result ≡ Err reasons.Memory → EndsWithoutMemory object to old.view new.view
+  pub memory : result ≡ Err reasons.Memory → EndsWithoutMemory (live_in system.sys.shapes object) object to old.view new.view
   pub worn : (result ≡ Err reasons.Worn) ↔ IsWornOut old.view
   pub kept : result ≡ Err reasons.Worn → HasNotBegun old.view new.view

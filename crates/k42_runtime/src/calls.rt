@@ -1,25 +1,25 @@
 //! Calls, which may be stepped where nobody may wait.
-ghost use Rattle.std.specs.Prelude.{◌≡◌, ◌<◌, ◌≤◌, ◌↔◌, false, [], length, Err, IfOk};
-ghost use Rattle.k42_kinds.specs.declared.operation.Reply.{Reply};
+ghost use Rattle.std.specs.Prelude.{◌≡◌, ◌<◌, ◌↔◌, false, [], length, Err, IfOk};
 ghost use Rattle.k42_limits.specs.declared.TheConstants.{PASS_ENTRIES};
 ghost use Rattle.k42_board.specs.Seen.{IsPassOf};
 ghost use Rattle.k42_board.specs.Tabling.{MayLookUp};
 ghost use Rattle.k42_runtime.specs.Calls.{IsAsked, IsWorn, HasCalled, HasNotCalled, HoldsUp, is_last};
-ghost use Rattle.k42_runtime.specs.Serving.{IsAskedOf, IsSameSeat, HasTried, step_with};
-ghost use Rattle.k42_runtime.specs.Systems.{IsPassHere, IsAtWork, any_layouts, layouts_in};
+ghost use Rattle.k42_runtime.specs.Serving.{IsSameSeat, HasTried, step_with};
+ghost use Rattle.k42_runtime.specs.Systems.{IsPassHere, IsAtWork};
+ghost use Rattle.k42_runtime.specs.declared.calls.Attempt.TheVariants as Attempt;
 ghost use Rattle.k42_runtime.specs.declared.calls.CallCause.{CallCause};
 ghost use Rattle.k42_runtime.specs.declared.calls.CallStep.TheVariants as CallStep;
 ghost use Rattle.k42_runtime.specs.declared.calls.NoCall.TheVariants as NoCall;
 ghost use Rattle.k42_runtime.specs.declared.calls.CallTry.TheVariants as CallTry;
-ghost use Rattle.k42_runtime.specs.declared.calls.TheConstants.{PAUSES};
 
 use crate::serving::{go_inside, serve};
-use crate::system::{Pass, System, SystemLayout};
+use crate::system::System;
 use crossbeam_utils::Backoff;
-use k42_kinds::{Op, Reply};
+use k42_clustered::Clustered;
+use k42_kinds::Layout;
 use k42_limits::PASS_ENTRIES;
 use k42_memory::Memory;
-use k42_rule::Sys;
+use k42_rule::{Pass, Sys};
 use k42_tables::finish_call;
 use std::alloc::Global;
 use std::marker::Model;
@@ -38,10 +38,10 @@ pub enum CallCause {
 
 /// How far a step has brought a call.
 #[derive(Clone, Copy, Debug, PartialEq, Eq)]
-pub enum CallStep {
+pub enum CallStep<R> {
     /// The pass is in its activity, inside no call, and holds no cell.
     Again(CallCause),
-    Ended(Reply),
+    Ended(R),
     Memory,
     /// The pass has drawn all the entries that a pass draws. Nothing was done.
     Worn,
@@ -52,6 +52,15 @@ pub enum CallStep {
 #[derive(Clone, Copy, Debug, PartialEq, Eq)]
 pub(crate) enum CallTry {
     Again(CallCause),
+    Ended,
+    Memory,
+    Worn,
+}
+
+/// How a call ended that was tried once, without the reply and without what held it up.
+#[derive(Clone, Copy, Debug, PartialEq, Eq)]
+pub enum Attempt {
+    Again,
     Ended,
     Memory,
     Worn,
@@ -68,54 +77,51 @@ pub enum NoCall {
 
 /// A call of an object.
 #[derive(Drop)]
-pub struct Call {
+pub struct Call<L: Layout> {
     object: u32,
-    op: Op,
+    op: L::Op,
     ended: bool,
 }
 
-impl Model for Call {
+impl<L: Layout> Model for Call<L> {
     ghost use Rattle.k42_board.specs.Seen.{IsPassOf};
     ghost use Rattle.k42_board.specs.Tabling.{MayLookUp};
     ghost use Rattle.k42_runtime.specs.Calls.{CallSeen};
 
-    ghost Value = { CallSeen };
+    ghost Value = { CallSeen L.Op };
 
     ghost view = { λ c. record { object = c.object; op = c.op; ended = c.ended } };
 }
 
-/// How many pauses a call makes before it yields its processor, where it found a cell held before: they double up to 64
-/// spins, and stay there. Whoever tries a lock takes its cache line from the caller that has it. A call that a swap blocks
-/// is tried again sooner, since the swap waits for its activity.
-const PAUSES: u32 = 6;
+/// How often a call pauses before it tries again a cell that it found held: the pauses double up to 64 spins, and stay
+/// there. Whoever tries a lock takes its cache line from the caller that has it; but a swap waits for the activity of
+/// whoever waits here, so that no wait is longer than the first. A call that a swap blocks is tried again sooner.
+const PAUSES: u32 = 9;
 
-/// Waits before a call is tried again, and says how many pauses the next wait has.
-fn wait_a_while(backoff: &Backoff, cause: CallCause, pauses: u32) -> u32
-    ensures { result ≤ PAUSES }
-{
-    for _ in 0..pauses {
-        backoff.spin();
+/// Waits before a call is tried again.
+fn wait_a_while(backoff: &Backoff, cause: CallCause) {
+    if let CallCause::CellHeld { .. } = cause {
+        let pauses = Backoff::new();
+        for _ in 0..PAUSES {
+            pauses.spin();
+        }
     }
     backoff.snooze();
-    match cause {
-        CallCause::CellHeld { .. } => PAUSES,
-        CallCause::Blocked | CallCause::Elsewhere { .. } => 0,
-    }
 }
 
 /// One try of a call.
 #[inline(always)]
-fn try_once(
+fn try_once<L: Layout>(
     alloc: Global,
-    sys: &Sys<SystemLayout>,
-    pass: &mut Pass,
+    sys: &Sys<L>,
+    pass: &mut Pass<L>,
     object: u32,
-    op: &Op,
-    reply: &mut Reply,
+    op: &L::Op,
+    reply: &mut L::Reply,
 ) -> CallTry
     requires ours { IsPassOf sys.now pass.old }
     requires may { MayLookUp (length sys.now.layouts) object pass.old.view }
-    requires asked { IsAskedOf sys.now.layouts object op.now }
+    requires asked { IsAsked L.object sys.now.layouts object op.now }
     requires held { pass.old.view.taker.held ≡ [] }
     requires notes { pass.old.view.notes ≡ [] }
     requires few { length pass.old.view.taker.mine < PASS_ENTRIES }
@@ -136,9 +142,9 @@ fn try_once(
     }
 }
 
-impl Call {
+impl<L: Clustered> Call<L> {
     /// A call that has not begun.
-    pub fn new(object: u32, op: Op) -> Call
+    pub fn new(object: u32, op: L::Op) -> Call<L>
         ensures { result ≡ record { object = object; op = op; ended = false } }
     {
         Call {
@@ -156,16 +162,21 @@ impl Call {
     }
 
     /// Tries the call once, and does not wait.
-    pub fn step(&mut self, alloc: Global, system: &System, pass: &mut Pass) -> CallStep
+    pub fn step(
+        &mut self,
+        alloc: Global,
+        system: &System<L>,
+        pass: &mut Pass<L>,
+    ) -> CallStep<L::Reply>
         requires ours { IsPassHere system.now pass.old }
         requires works { IsAtWork pass.old.view }
-        requires asked { IsAsked system.now.plan self.old.object self.old.op }
+        requires asked { IsAsked L.object system.now.plan.objects self.old.object self.old.op }
         requires going { self.old.ended ≡ false }
         ensures here { IsPassHere system.now pass.new }
         ensures seat { IsSameSeat pass.old pass.new }
         ensures works { IsAtWork pass.new.view }
         ensures same { self.new ≡ record self.old { ended = is_last result } }
-        ensures ended { (reply : Reply) → result ≡ CallStep.Ended reply → HasCalled self.old.object self.old.op reply pass.old.view pass.new.view }
+        ensures ended { (reply : L.Reply) → result ≡ CallStep.Ended reply → HasCalled self.old.object self.old.op reply pass.old.view pass.new.view }
         ensures again { (cause : CallCause) → result ≡ CallStep.Again cause → HasNotCalled pass.old.view pass.new.view }
         ensures found { (cause : CallCause) → result ≡ CallStep.Again cause
             → HoldsUp cause self.old.object pass.old.view pass.new.view }
@@ -173,7 +184,7 @@ impl Call {
         ensures worn { (result ≡ CallStep.Worn) ↔ IsWorn pass.old.view }
         ensures kept { result ≡ CallStep.Worn → pass.new ≡ pass.old }
     {
-        let mut reply = Reply::Done;
+        let mut reply = L::blank_reply();
         let tried = system.try_call(alloc, pass, self.object, &self.op, &mut reply);
         self.ended = !matches!(tried, CallTry::Again(_));
         match tried {
@@ -185,20 +196,20 @@ impl Call {
     }
 }
 
-impl System {
+impl<L: Clustered> System<L> {
     /// One try of a call, which tells how far it came, and leaves the reply where it ended.
     #[inline(always)]
     fn try_call(
         &self,
         alloc: Global,
-        pass: &mut Pass,
+        pass: &mut Pass<L>,
         object: u32,
-        op: &Op,
-        reply: &mut Reply,
+        op: &L::Op,
+        reply: &mut L::Reply,
     ) -> CallTry
         requires ours { IsPassHere self.now pass.old }
         requires works { IsAtWork pass.old.view }
-        requires asked { IsAsked self.now.plan object op.now }
+        requires asked { IsAsked L.object self.now.plan.objects object op.now }
         ensures here { IsPassHere self.now pass.new }
         ensures seat { IsSameSeat pass.old pass.new }
         ensures works { IsAtWork pass.new.view }
@@ -215,6 +226,35 @@ impl System {
         try_once(alloc, &self.sys, pass, object, op, reply)
     }
 
+    /// Tries the operation once, and does not wait. Where it ended, its reply is where room for it was lent.
+    pub fn attempt(
+        &self,
+        alloc: Global,
+        pass: &mut Pass<L>,
+        object: u32,
+        op: &L::Op,
+        reply: &mut L::Reply,
+    ) -> Attempt
+        requires ours { IsPassHere self.now pass.old }
+        requires works { IsAtWork pass.old.view }
+        requires asked { IsAsked L.object self.now.plan.objects object op.now }
+        ensures here { IsPassHere self.now pass.new }
+        ensures seat { IsSameSeat pass.old pass.new }
+        ensures works { IsAtWork pass.new.view }
+        ensures ended { result ≡ Attempt.Ended → HasCalled object op.now reply.new pass.old.view pass.new.view }
+        ensures again { result ≡ Attempt.Again → HasNotCalled pass.old.view pass.new.view }
+        ensures memory { result ≡ Attempt.Memory → HasNotCalled pass.old.view pass.new.view }
+        ensures worn { (result ≡ Attempt.Worn) ↔ IsWorn pass.old.view }
+        ensures kept { result ≡ Attempt.Worn → pass.new ≡ pass.old }
+    {
+        match self.try_call(alloc, pass, object, op, reply) {
+            CallTry::Again(_) => Attempt::Again,
+            CallTry::Ended => Attempt::Ended,
+            CallTry::Memory => Attempt::Memory,
+            CallTry::Worn => Attempt::Worn,
+        }
+    }
+
     /// Makes the operation, and answers its reply. Waits while the object is shut for a swap, and while another caller
     /// holds a cell that the operation needs. For want of memory nothing is done, nor by a pass that has drawn all its
     /// entries.
@@ -222,13 +262,13 @@ impl System {
         &self,
         rt: &R,
         alloc: Global,
-        pass: &mut Pass,
+        pass: &mut Pass<L>,
         object: u32,
-        op: Op,
-    ) -> Result<Reply, NoCall>
+        op: L::Op,
+    ) -> Result<L::Reply, NoCall>
         requires ours { IsPassHere self.now pass.old }
         requires works { IsAtWork pass.old.view }
-        requires asked { IsAsked self.now.plan object op }
+        requires asked { IsAsked L.object self.now.plan.objects object op }
         ensures here { IsPassHere self.now pass.new }
         ensures seat { IsSameSeat pass.old pass.new }
         ensures works { IsAtWork pass.new.view }
@@ -237,15 +277,14 @@ impl System {
         ensures worn { (result ≡ Err NoCall.Worn) ↔ IsWorn pass.old.view }
         ensures kept { result ≡ Err NoCall.Worn → pass.new ≡ pass.old }
     {
-        let mut reply = Reply::Done;
+        let mut reply = L::blank_reply();
         let backoff = Backoff::new();
-        let mut pauses = 0;
         for _ in rt.forever() {
             match self.try_call(alloc, pass, object, &op, &mut reply) {
                 CallTry::Ended => return Ok(reply),
                 CallTry::Memory => return Err(NoCall::Memory),
                 CallTry::Worn => return Err(NoCall::Worn),
-                CallTry::Again(cause) => pauses = wait_a_while(&backoff, cause, pauses),
+                CallTry::Again(cause) => wait_a_while(&backoff, cause),
             }
         }
         unreachable!()

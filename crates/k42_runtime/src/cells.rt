@@ -8,26 +8,26 @@ ghost use Rattle.k42_board.specs.Log.{ComesTo};
 ghost use Rattle.k42_board.specs.Protocol as protocol;
 ghost use Rattle.k42_board.specs.Seen.{IsOf, IsSamePass};
 ghost use Rattle.k42_board.specs.Stepping as stepping;
+ghost use Rattle.k42_board.specs.Stepping.{layouts_in};
 ghost use Rattle.k42_board.specs.Taking.{MayLock, TouchesInside};
 ghost use Rattle.k42_mediator.specs.Taken.{released, AreTaken, MayPutBack};
 ghost use Rattle.k42_runtime.specs.Reaching.{TakesNext, Takes, MayGiveBack};
-ghost use Rattle.k42_runtime.specs.Systems.{any_layouts};
 
-use crate::system::{Pass, SystemLayout};
 use crossbeam_utils::Backoff;
 use k42_board::cell_number;
-use k42_rule::{Cell, Sys, layouts_are_lawful, lock, lock_quietly, put_from, take, unlock};
+use k42_kinds::Layout;
+use k42_rule::{Cell, Pass, Sys, layouts_are_lawful, lock, lock_quietly, put_from, take, unlock};
 
 /// How often a call at several cells tries the lock of one, before it gives back the cells that it has: another caller has
 /// a lock for a part of a call, and takes it again soon.
 const TRIES: u32 = 32;
 
 /// Takes the lock of a cell, or answers what `lock` does. The last of its tries alone is in the log.
-fn lock_patiently(sys: &Sys<SystemLayout>, pass: &mut Pass, number: u32) -> u64
+fn lock_patiently<L: Layout>(sys: &Sys<L>, pass: &mut Pass<L>, number: u32) -> u64
     requires ours { IsOf sys.now pass.old }
     requires may { MayLock sys.now.procs number pass.old.view }
     ensures same { IsSamePass pass.old pass.new }
-    ensures takes { stepping.Takes (any_layouts sys.now.procs sys.now.callers) sys.now.layouts (protocol.lock number) pass.old.seat pass.old.view result pass.new.view }
+    ensures takes { stepping.Takes (layouts_in L.Layout sys.now) sys.now.layouts (protocol.lock number) pass.old.seat pass.old.view result pass.new.view }
 {
     let backoff = Backoff::new();
     for _ in 0..TRIES {
@@ -40,11 +40,11 @@ fn lock_patiently(sys: &Sys<SystemLayout>, pass: &mut Pass, number: u32) -> u64
 }
 
 /// Takes a cell, or answers which caller has it.
-fn take_next(
-    sys: &Sys<SystemLayout>,
-    pass: &mut Pass,
+fn take_next<L: Layout>(
+    sys: &Sys<L>,
+    pass: &mut Pass<L>,
     number: u32,
-    cells: &mut Vec<Cell<SystemLayout>>,
+    cells: &mut Vec<Cell<L>>,
 ) -> Option<u32>
     requires ours { IsOf sys.now pass.old }
     requires few { number < 256 }
@@ -56,7 +56,7 @@ fn take_next(
     ensures same { IsSamePass pass.old pass.new }
     ensures capacity { vec_capacity cells.new ≡ vec_capacity cells.old }
     ensures len { is_some result ≡ false → vec_len cells.new ≡ vec_len cells.old + 1 }
-    ensures takes { TakesNext (any_layouts sys.now.procs sys.now.callers) sys.now.layouts result number pass.old.view pass.new.view cells.old.items cells.new.items }
+    ensures takes { TakesNext (layouts_in L.Layout sys.now) sys.now.layouts result number pass.old.view pass.new.view cells.old.items cells.new.items }
 {
     let found = lock_patiently(sys, pass, number);
     if found != 0 {
@@ -69,12 +69,12 @@ fn take_next(
 
 /// Takes all cells of a row, in rising order. Where another caller has one of them, it answers which caller, and those
 /// before it are taken.
-pub(crate) fn take_row(
-    sys: &Sys<SystemLayout>,
-    pass: &mut Pass,
+pub(crate) fn take_row<L: Layout>(
+    sys: &Sys<L>,
+    pass: &mut Pass<L>,
     object: u32,
     row: u32,
-    cells: &mut Vec<Cell<SystemLayout>>,
+    cells: &mut Vec<Cell<L>>,
 ) -> Option<u32>
     requires ours { IsOf sys.now pass.old }
     requires some { 0 < sys.now.procs }
@@ -84,8 +84,8 @@ pub(crate) fn take_row(
     requires none { cells.old.items ≡ [] }
     requires held { pass.old.view.taker.held ≡ [] }
     ensures same { IsSamePass pass.old pass.new }
-    ensures takes { Takes (any_layouts sys.now.procs sys.now.callers) sys.now.layouts result object (row_cells sys.now.procs object row) pass.old.view pass.new.view cells.new.items }
-    ensures may { MayGiveBack (any_layouts sys.now.procs sys.now.callers) sys.now.layouts pass.new.seat pass.new.view cells.new.items }
+    ensures takes { Takes (layouts_in L.Layout sys.now) sys.now.layouts result object (row_cells sys.now.procs object row) pass.old.view pass.new.view cells.new.items }
+    ensures may { MayGiveBack (layouts_in L.Layout sys.now) sys.now.layouts pass.new.seat pass.new.view cells.new.items }
 {
     layouts_are_lawful(sys);
     let _home = pass.processor();
@@ -100,15 +100,15 @@ pub(crate) fn take_row(
 
 /// Puts the cell that is held back, and leaves its lock.
 #[inline(always)]
-pub(crate) fn give_held(
-    sys: &Sys<SystemLayout>,
-    pass: &mut Pass,
+pub(crate) fn give_held<L: Layout>(
+    sys: &Sys<L>,
+    pass: &mut Pass<L>,
     number: u32,
-    held: &mut Option<Cell<SystemLayout>>,
+    held: &mut Option<Cell<L>>,
 )
     requires ours { IsOf sys.now pass.old }
     requires number { IsSomeAnd held.old (λ cell. cell.number ≡ number) }
-    requires ready { IsSomeAnd held.old (MayPutBack (any_layouts sys.now.procs sys.now.callers) sys.now.layouts pass.old.seat pass.old.view) }
+    requires ready { IsSomeAnd held.old (MayPutBack (layouts_in L.Layout sys.now) sys.now.layouts pass.old.seat pass.old.view) }
     ensures same { IsSamePass pass.old pass.new }
     ensures comes { ComesTo pass.old.view (released (number ∷ []) pass.old.view) pass.new.view }
 {
@@ -117,9 +117,9 @@ pub(crate) fn give_held(
 }
 
 /// Puts one cell back, and leaves its lock.
-fn give_next(sys: &Sys<SystemLayout>, pass: &mut Pass, cell: Cell<SystemLayout>)
+fn give_next<L: Layout>(sys: &Sys<L>, pass: &mut Pass<L>, cell: Cell<L>)
     requires ours { IsOf sys.now pass.old }
-    requires ready { MayPutBack (any_layouts sys.now.procs sys.now.callers) sys.now.layouts pass.old.seat pass.old.view cell }
+    requires ready { MayPutBack (layouts_in L.Layout sys.now) sys.now.layouts pass.old.seat pass.old.view cell }
     ensures same { IsSamePass pass.old pass.new }
     ensures comes { ComesTo pass.old.view (released (cell.number ∷ []) pass.old.view) pass.new.view }
 {
@@ -128,13 +128,9 @@ fn give_next(sys: &Sys<SystemLayout>, pass: &mut Pass, cell: Cell<SystemLayout>)
 }
 
 /// Gives all cells back.
-pub(crate) fn give_back(
-    sys: &Sys<SystemLayout>,
-    pass: &mut Pass,
-    mut cells: Vec<Cell<SystemLayout>>,
-)
+pub(crate) fn give_back<L: Layout>(sys: &Sys<L>, pass: &mut Pass<L>, mut cells: Vec<Cell<L>>)
     requires ours { IsOf sys.now pass.old }
-    requires may { MayGiveBack (any_layouts sys.now.procs sys.now.callers) sys.now.layouts pass.old.seat pass.old.view cells.items }
+    requires may { MayGiveBack (layouts_in L.Layout sys.now) sys.now.layouts pass.old.seat pass.old.view cells.items }
     ensures same { IsSamePass pass.old pass.new }
     ensures comes { ComesTo pass.old.view (released (numbers_of cells.items) pass.old.view) pass.new.view }
 {

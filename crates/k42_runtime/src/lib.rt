@@ -1,4 +1,4 @@
-//! Clustered objects of three kinds, which are called on any thread, swapped and destroyed while they are called, and
+//! Clustered objects of any kinds, which are called on any thread, swapped and destroyed while they are called, and
 //! closed into one legal history.
 #![tactic(auto)]
 
@@ -17,19 +17,20 @@ mod swaps;
 mod system;
 mod waiting;
 
-pub use calls::{Call, CallCause, CallStep, NoCall};
+pub use calls::{Attempt, Call, CallCause, CallStep, NoCall};
 pub use history::{History, Unclosed};
+pub use k42_clustered::Clustered;
 pub use k42_journal::{Journal, Reader};
-pub use k42_kinds::{Act, Answer, Entry, KindName, LayoutName, Name, Op, Reply, Text, To};
+pub use k42_kinds::{Act, Answer, Entry, Kind, Layout, To};
 pub use k42_memory::Memory;
-pub use k42_rule::Keep;
+pub use k42_rule::{Keep, Pass};
 pub use laws::{
     nothing_seen_is_later_than_the_last_entry, the_end_of_a_swap_given_up_leaves_its_object_open,
     traces_are_legal,
 };
-pub use plan::{ObjectPlan, Plan, PlanFault};
+pub use plan::{Plan, PlanFault};
 pub use section_laws::{
     sections_are_legal, sections_lie_end_to_end, the_last_section_ends_the_history,
 };
 pub use swaps::{Cause, NoSwap, Step, Swap, Swapped};
-pub use system::{Pass, System};
+pub use system::System;

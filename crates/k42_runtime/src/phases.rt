@@ -5,58 +5,36 @@ ghost use Rattle.k42_kinds.specs.declared.entry.Act.TheVariants as Act;
 ghost use Rattle.k42_board.specs.Values.{incarnation_in, layout_in};
 ghost use Rattle.k42_board.specs.Views.{word_begun};
 ghost use Rattle.k42_mediator.specs.Transfers.{IsOfKind};
-ghost use Rattle.k42_runtime.specs.Phases.{IsMoving, cause_in, end_in, layer_to, tag_to};
+ghost use Rattle.k42_runtime.specs.Phases.{IsMoving, cause_in, end_in};
 ghost use Rattle.k42_runtime.specs.Swaps.{IsAtStage, IsUnderWay, IsWornOut, HasFoundFree, HasStepped};
-ghost use Rattle.k42_runtime.specs.Systems.{IsPassHere, object_in, act_in};
+ghost use Rattle.k42_runtime.specs.Systems.{IsPassHere, MayLead, live_in};
+ghost use Rattle.k42_shapes.specs.Shapes.{IsKnownTag};
 ghost use Rattle.k42_runtime.specs.declared.swaps.Stage.TheVariants as Stage;
 ghost use Rattle.k42_runtime.specs.declared.swaps.Step.TheVariants as Step;
 
 use crate::swaps::{Cause, Stage, Step, Swap, Swapped};
-use crate::system::{Pass, System, SystemLayout, layouts_are_told};
+use crate::system::{System, layouts_are_told};
 use k42_board::{incarnation_in, layout_in};
-use k42_kinds::{Act, Answer, Layout, LayoutName, To};
+use k42_clustered::Clustered;
+use k42_kinds::{Act, Answer, Layout};
 use k42_limits::{PASS_ENTRIES, PASS_GRACES};
 use k42_mediator::{
     Begun, Marked, Moving, abandon, begin, block, end, interpose, mark, open_entries, transfer,
     try_move,
 };
 use k42_quiesce::{GraceStep, Held, reclaim};
-use k42_rule::{LastBegin, draw_alone};
-use k42_watch::{Layer, Watch};
+use k42_rule::{LastBegin, Pass, draw_alone};
 use std::alloc::Global;
 
 /// Whether the pass has drawn all its entries, or has begun all its graces.
-fn is_worn_out(pass: &Pass) -> bool
+fn is_worn_out<L: Layout>(pass: &Pass<L>) -> bool
     ensures { (result ≡ true) ↔ IsWornOut pass.now.view }
 {
     pass.drawn() >= PASS_ENTRIES || pass.graces() >= PASS_GRACES
 }
 
-/// The tag of what an object of the present tag is swapped to.
-fn tag_to(to: To, present: u32) -> u32
-    ensures { result ≡ tag_to to present }
-{
-    match to {
-        To::Layout(LayoutName::Shared) => 0,
-        To::Layout(LayoutName::Spread) => 1,
-        To::Dead => 2,
-        To::Watch | To::Unwatch => present,
-    }
-}
-
-/// What becomes of its layer.
-fn layer_to(to: To) -> Layer
-    ensures { result ≡ layer_to to }
-{
-    match to {
-        To::Layout(_) | To::Dead => Layer::Keep,
-        To::Watch => Layer::Place,
-        To::Unwatch => Layer::Take,
-    }
-}
-
 /// The word that the pass found as it began.
-fn word_of(pass: &Pass) -> u64
+fn word_of<L: Layout>(pass: &Pass<L>) -> u64
     ensures is { result ≡ word_begun pass.now.view.last }
     ensures bound { incarnation_in result ≤ LAST_INCARNATION }
 {
@@ -66,17 +44,17 @@ fn word_of(pass: &Pass) -> u64
 }
 
 /// The number of the swap that the pass has begun.
-fn number_begun(pass: &Pass) -> u32
+fn number_begun<L: Layout>(pass: &Pass<L>) -> u32
     ensures { result ≡ incarnation_in (word_begun pass.now.view.last) + 1 }
 {
-    incarnation_in(word_of(pass)) + 1
+    incarnation_in(word_of::<L>(pass)) + 1
 }
 
-/// How a swap ended that found its object over.
-fn end_over(pass: &Pass) -> Swapped
-    ensures { result ≡ end_in (word_begun pass.now.view.last) }
+/// How a swap ended that found its object over, which has so many live layouts.
+fn end_over<L: Layout>(pass: &Pass<L>, live: u32) -> Swapped
+    ensures { result ≡ end_in live (word_begun pass.now.view.last) }
 {
-    if layout_in(word_of(pass)) == 2 {
+    if layout_in(word_of::<L>(pass)) == live {
         Swapped::Gone
     } else {
         Swapped::Spent
@@ -94,26 +72,22 @@ fn cause_of(held: Held) -> Cause
 }
 
 impl Swap {
-    /// The layout of its hand. A watch and an unwatch keep the tag that its begin has found.
-    fn layout(&self, system: &System, pass: &Pass) -> SystemLayout
+    /// The layout to which it leads from the one that its begin has found.
+    fn target<L: Clustered>(&self, system: &System<L>, pass: &Pass<L>) -> L
         requires ours { IsPassHere system.now pass.now }
-        requires there { self.now.object < length system.now.plan.objects }
+        requires there { self.now.object < length system.now.sys.shapes }
+        requires leads { MayLead L.leads system.now.plan.objects self.now.object self.now.to }
         requires moving { IsMoving self.now.object pass.now.view }
-        requires found { HasFoundFree pass.now.view }
-        ensures kind { IsOfKind object_in system.now.sys.layouts self.now.object result }
-        ensures tag { result.inner.tag ≡ tag_to self.now.to (layout_in (word_begun pass.now.view.last)) }
-        ensures layer { result.layer ≡ layer_to self.now.to }
-        ensures act { act_in result ≡ Act.Swap self.now.to }
-        ensures known { result.inner.tag ≤ 2 }
+        requires found { HasFoundFree (live_in system.now.sys.shapes self.now.object) pass.now.view }
+        ensures kind { IsOfKind L.object system.now.sys.layouts self.now.object result }
+        ensures act { L.act_of result ≡ Act.Swap self.now.to }
+        ensures known { IsKnownTag (L.shapes result) (L.tag_of result) }
     {
         layouts_are_told(system, pass, self.object);
         // A pass that stands between two steps tells how its swap fits together.
         let _swap = pass.swap();
-        let tag = tag_to(self.to, pass.begun_layout());
-        Watch {
-            inner: system.sys.declared(self.object).inner.with_tag(tag),
-            layer: layer_to(self.to),
-        }
+        let present = pass.begun_layout();
+        system.sys.declared(self.object).target(self.to, present)
     }
 
     fn over(&mut self, end: Swapped) -> Step
@@ -125,13 +99,19 @@ impl Swap {
     }
 
     /// Begins, and goes on by what was found.
-    pub(crate) fn begin(&mut self, alloc: Global, system: &System, pass: &mut Pass) -> Step
+    pub(crate) fn begin<L: Clustered>(
+        &mut self,
+        alloc: Global,
+        system: &System<L>,
+        pass: &mut Pass<L>,
+    ) -> Step
         requires ours { IsPassHere system.now pass.old }
         requires stage { self.old.stage ≡ Stage.New }
-        requires new { IsAtStage Stage.New (length system.now.plan.objects) self.old pass.old }
+        requires new { IsAtStage Stage.New system.now.sys.shapes self.old pass.old }
+        requires leads { MayLead L.leads system.now.plan.objects self.old.object self.old.to }
         ensures { HasStepped system.now result self.old self.new pass.old pass.new }
     {
-        if is_worn_out(pass) {
+        if is_worn_out::<L>(pass) {
             self.stage = Stage::Over;
             return Step::Worn;
         }
@@ -158,10 +138,16 @@ impl Swap {
     }
 
     /// Steps its grace, and shuts the object once that is quiet.
-    pub(crate) fn wait(&mut self, alloc: Global, system: &System, pass: &mut Pass) -> Step
+    pub(crate) fn wait<L: Clustered>(
+        &mut self,
+        alloc: Global,
+        system: &System<L>,
+        pass: &mut Pass<L>,
+    ) -> Step
         requires ours { IsPassHere system.now pass.old }
         requires stage { self.old.stage ≡ Stage.Waiting }
-        requires waiting { IsAtStage Stage.Waiting (length system.now.plan.objects) self.old pass.old }
+        requires waiting { IsAtStage Stage.Waiting system.now.sys.shapes self.old pass.old }
+        requires leads { MayLead L.leads system.now.plan.objects self.old.object self.old.to }
         ensures { HasStepped system.now result self.old self.new pass.old pass.new }
     {
         match self.grace.step(&system.sys, pass) {
@@ -176,10 +162,16 @@ impl Swap {
     }
 
     /// Moves the state once nobody is counted.
-    pub(crate) fn shut(&mut self, alloc: Global, system: &System, pass: &mut Pass) -> Step
+    pub(crate) fn shut<L: Clustered>(
+        &mut self,
+        alloc: Global,
+        system: &System<L>,
+        pass: &mut Pass<L>,
+    ) -> Step
         requires ours { IsPassHere system.now pass.old }
         requires stage { self.old.stage ≡ Stage.Shut }
-        requires shut { IsAtStage Stage.Shut (length system.now.plan.objects) self.old pass.old }
+        requires shut { IsAtStage Stage.Shut system.now.sys.shapes self.old pass.old }
+        requires leads { MayLead L.leads system.now.plan.objects self.old.object self.old.to }
         ensures { HasStepped system.now result self.old self.new pass.old pass.new }
     {
         // A pass that stands between two steps tells how its swap fits together.
@@ -191,17 +183,23 @@ impl Swap {
     }
 
     /// Hands the state on, and opens the new row; for want of memory it opens the old one.
-    fn transfer_or_abandon(&mut self, alloc: Global, system: &System, pass: &mut Pass) -> Step
+    fn transfer_or_abandon<L: Clustered>(
+        &mut self,
+        alloc: Global,
+        system: &System<L>,
+        pass: &mut Pass<L>,
+    ) -> Step
         requires ours { IsPassHere system.now pass.old }
         requires stage { self.old.stage ≡ Stage.Shut }
-        requires way { IsUnderWay (length system.now.plan.objects) self.old.object pass.old }
-        requires found { HasFoundFree pass.old.view }
+        requires way { IsUnderWay (length system.now.sys.shapes) self.old.object pass.old }
+        requires found { HasFoundFree (live_in system.now.sys.shapes self.old.object) pass.old.view }
+        requires leads { MayLead L.leads system.now.plan.objects self.old.object self.old.to }
         requires moving { IsMoving self.old.object pass.old.view }
         ensures { HasStepped system.now result self.old self.new pass.old pass.new }
     {
         // A pass that stands between two steps tells how its swap fits together.
         let _swap = pass.swap();
-        let to = self.layout(system, pass);
+        let to = self.target(system, pass);
         if transfer(alloc, &system.sys, pass, &to).is_err() {
             abandon(&system.sys, pass, &to);
             self.stage = Stage::Over;
@@ -209,20 +207,23 @@ impl Swap {
         }
         open_entries(&system.sys, pass);
         end(&system.sys, pass);
-        self.over(Swapped::Done(number_begun(pass)))
+        self.over(Swapped::Done(number_begun::<L>(pass)))
     }
 
     /// Draws that its object is over.
-    pub(crate) fn mark(&mut self, system: &System, pass: &mut Pass) -> Step
+    pub(crate) fn mark<L: Clustered>(&mut self, system: &System<L>, pass: &mut Pass<L>) -> Step
         requires ours { IsPassHere system.now pass.old }
         requires stage { self.old.stage ≡ Stage.Marking }
-        requires marking { IsAtStage Stage.Marking (length system.now.plan.objects) self.old pass.old }
+        requires marking { IsAtStage Stage.Marking system.now.sys.shapes self.old pass.old }
         ensures { HasStepped system.now result self.old self.new pass.old pass.new }
     {
         layouts_are_told(system, pass, self.object);
         match mark(&system.sys, pass, Act::Swap(self.to)) {
             Marked::Held { holder } => Step::Again(Cause::CellHeld { holder }),
-            Marked::Marked => self.over(end_over(pass)),
+            Marked::Marked => {
+                let live = system.sys.declared(self.object).live();
+                self.over(end_over::<L>(pass, live))
+            }
         }
     }
 }

@@ -6,29 +6,29 @@ ghost use Rattle.k42_joined.specs.Numbers.{cell_of};
 ghost use Rattle.k42_board.specs.Drawing.{numbers_of};
 ghost use Rattle.k42_limits.specs.declared.TheConstants.{PASS_ENTRIES};
 ghost use Rattle.k42_board.specs.Seen.{HasRoom, IsOf, IsPassOf, IsSamePass};
+ghost use Rattle.k42_board.specs.Stepping.{layouts_in};
 ghost use Rattle.k42_board.specs.Tabling.{MayLookUp};
 ghost use Rattle.k42_rule.specs.Settled.{IsSettled};
 ghost use Rattle.k42_runtime.specs.Reaching.{MayGiveBack};
-ghost use Rattle.k42_runtime.specs.Serving.{object_inside, row_inside, IsServing, GoesBy, IsAskedOf, IsSameSeat, Makes, GoesIn, GoesOut, IsCallAt, HasCells, IsServedBy, step_with};
-ghost use Rattle.k42_runtime.specs.Systems.{any_layouts};
+ghost use Rattle.k42_runtime.specs.Serving.{object_inside, row_inside, IsServing, GoesBy, IsSameSeat, Makes, GoesIn, GoesOut, IsCallAt, HasCells, IsServedBy, step_with};
+ghost use Rattle.k42_runtime.specs.Calls.{IsAsked};
 
 use crate::calls::{CallCause, CallTry};
 use crate::cells::{give_back, take_row};
 use crate::stepping::step_row;
-use crate::system::{Pass, SystemLayout};
 use k42_board::cell_number;
-use k42_kinds::{Layout, Op, Reach, Reply};
+use k42_kinds::{Layout, Reach};
 use k42_mediator::{Knocked, knock};
 use k42_memory::Memory;
-use k42_rule::{Cell, Sys, call_one, draw_call, layouts_are_lawful, lock, unlock};
+use k42_rule::{Cell, Pass, Sys, call_one, draw_call, layouts_are_lawful, lock, unlock};
 use k42_tables::{Entered, Filled, Tried, look_up, try_miss};
 use std::alloc::Global;
 
 /// Has the miss handled.
-fn fill(
+fn fill<L: Layout>(
     alloc: Global,
-    sys: &Sys<SystemLayout>,
-    pass: &mut Pass,
+    sys: &Sys<L>,
+    pass: &mut Pass<L>,
     object: u32,
 ) -> Result<Option<CallCause>, Memory>
     requires ours { IsPassOf sys.now pass.old }
@@ -49,7 +49,7 @@ fn fill(
 }
 
 /// Asks the mediator to be let in.
-fn ask(sys: &Sys<SystemLayout>, pass: &mut Pass, object: u32) -> Option<CallCause>
+fn ask<L: Layout>(sys: &Sys<L>, pass: &mut Pass<L>, object: u32) -> Option<CallCause>
     requires ours { IsPassOf sys.now pass.old }
     requires sent { is_at_mediator pass.old.view.visitor.place object ≡ true }
     requires there { object < length sys.now.layouts }
@@ -65,10 +65,10 @@ fn ask(sys: &Sys<SystemLayout>, pass: &mut Pass, object: u32) -> Option<CallCaus
 }
 
 /// Gets inside the row that serves the pass, or answers what kept it out.
-pub(crate) fn go_inside(
+pub(crate) fn go_inside<L: Layout>(
     alloc: Global,
-    sys: &Sys<SystemLayout>,
-    pass: &mut Pass,
+    sys: &Sys<L>,
+    pass: &mut Pass<L>,
     object: u32,
 ) -> Result<Option<CallCause>, Memory>
     requires ours { IsPassOf sys.now pass.old }
@@ -88,18 +88,18 @@ pub(crate) fn go_inside(
 
 /// Locks the one cell that the operation needs, makes it there, and leaves the lock.
 #[inline(always)]
-fn serve_one(
+fn serve_one<L: Layout>(
     alloc: Global,
-    sys: &Sys<SystemLayout>,
-    pass: &mut Pass,
-    layout: &SystemLayout,
+    sys: &Sys<L>,
+    pass: &mut Pass<L>,
+    layout: &L,
     number: u32,
     place: u32,
-    op: &Op,
-    reply: &mut Reply,
+    op: &L::Op,
+    reply: &mut L::Reply,
 ) -> CallTry
     requires ours { IsOf sys.now pass.old }
-    requires call { IsCallAt (any_layouts sys.now.procs sys.now.callers) sys.now.layouts pass.old.view layout.now (One place) op.now }
+    requires call { IsCallAt (layouts_in L.Layout sys.now) sys.now.layouts pass.old.view layout.now (One place) op.now }
     requires there { place < sys.now.procs }
     requires number { number ≡ cell_of (object_inside pass.old.view) (row_inside pass.old.view) place }
     requires held { pass.old.view.taker.held ≡ [] }
@@ -126,22 +126,22 @@ fn serve_one(
 }
 
 /// Makes the operation at all cells of the row, and draws that.
-fn make_all(
+fn make_all<L: Layout>(
     alloc: Global,
-    sys: &Sys<SystemLayout>,
-    pass: &mut Pass,
-    layout: &SystemLayout,
-    op: &Op,
-    cells: &mut Vec<Cell<SystemLayout>>,
-    reply: &mut Reply,
+    sys: &Sys<L>,
+    pass: &mut Pass<L>,
+    layout: &L,
+    op: &L::Op,
+    cells: &mut Vec<Cell<L>>,
+    reply: &mut L::Reply,
 ) -> CallTry
     requires ours { IsOf sys.now pass.old }
     requires room { HasRoom pass.old }
     requires few { length pass.old.view.taker.mine < PASS_ENTRIES }
-    requires has { HasCells (any_layouts sys.now.procs sys.now.callers) sys.now.layouts pass.old.view layout.now All op.now cells.old.items }
+    requires has { HasCells (layouts_in L.Layout sys.now) sys.now.layouts pass.old.view layout.now All op.now cells.old.items }
     ensures same { IsSameSeat pass.old pass.new }
     ensures numbers { numbers_of cells.new.items ≡ numbers_of cells.old.items }
-    ensures may { MayGiveBack (any_layouts sys.now.procs sys.now.callers) sys.now.layouts pass.new.seat pass.new.view cells.new.items }
+    ensures may { MayGiveBack (layouts_in L.Layout sys.now) sys.now.layouts pass.new.seat pass.new.view cells.new.items }
     ensures makes { Makes (step_with result reply.new) (numbers_of cells.old.items) op.now pass.old.view pass.new.view }
 {
     layouts_are_lawful(sys);
@@ -155,16 +155,16 @@ fn make_all(
 }
 
 /// Takes all cells of the row, makes the operation, and gives them back.
-fn serve_all(
+fn serve_all<L: Layout>(
     alloc: Global,
-    sys: &Sys<SystemLayout>,
-    pass: &mut Pass,
-    layout: &SystemLayout,
-    op: &Op,
-    reply: &mut Reply,
+    sys: &Sys<L>,
+    pass: &mut Pass<L>,
+    layout: &L,
+    op: &L::Op,
+    reply: &mut L::Reply,
 ) -> CallTry
     requires ours { IsOf sys.now pass.old }
-    requires call { IsCallAt (any_layouts sys.now.procs sys.now.callers) sys.now.layouts pass.old.view layout.now All op.now }
+    requires call { IsCallAt (layouts_in L.Layout sys.now) sys.now.layouts pass.old.view layout.now All op.now }
     requires some { 0 < sys.now.procs }
     requires held { pass.old.view.taker.held ≡ [] }
     requires settled { IsSettled pass.old.view }
@@ -192,16 +192,16 @@ fn serve_all(
 
 /// Takes the cells that the operation needs, makes it, and gives them back.
 #[inline(always)]
-pub(crate) fn serve(
+pub(crate) fn serve<L: Layout>(
     alloc: Global,
-    sys: &Sys<SystemLayout>,
-    pass: &mut Pass,
-    op: &Op,
-    reply: &mut Reply,
+    sys: &Sys<L>,
+    pass: &mut Pass<L>,
+    op: &L::Op,
+    reply: &mut L::Reply,
 ) -> CallTry
     requires ours { IsPassOf sys.now pass.old }
     requires serving { IsServing (object_inside pass.old.view) pass.old.view }
-    requires asked { IsAskedOf sys.now.layouts (object_inside pass.old.view) op.now }
+    requires asked { IsAsked L.object sys.now.layouts (object_inside pass.old.view) op.now }
     requires held { pass.old.view.taker.held ≡ [] }
     requires notes { pass.old.view.notes ≡ [] }
     requires room { HasRoom pass.old }

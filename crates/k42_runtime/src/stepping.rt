@@ -4,30 +4,29 @@ ghost use Rattle.k42_limits.specs.declared.TheConstants.{PROCESSORS};
 ghost use Rattle.k42_mediator.specs.Parts.{parts_from, filled};
 ghost use Rattle.k42_board.specs.Calling.{due_in};
 ghost use Rattle.k42_runtime.specs.Stepping.{row_behind, AreRow, MayStepRow};
-ghost use Rattle.k42_runtime.specs.Systems.{object_in, cells_in, ways_in, whole_in};
+ghost use Rattle.k42_shapes.specs.Shapes.{IsKnownTag, cells_of, shape_at};
 
-use crate::system::{SystemLayout, SystemPart};
-use k42_kinds::{Layout, Op, Reply};
+use k42_kinds::Layout;
 use k42_memory::Memory;
 use k42_rule::Cell;
 use std::alloc::Global;
 
 /// The part of a cell, or the empty one that is due there, and whether it is the cell's own.
-struct Lifted {
-    part: SystemPart,
+struct Lifted<P> {
+    part: P,
     own: bool,
 }
 
 /// Takes the part out of a cell. Where there is none, an empty one is made.
-fn lift_part(
+fn lift_part<L: Layout>(
     alloc: Global,
-    layout: &SystemLayout,
+    layout: &L,
     procs: u32,
     place: u32,
-    cell: &mut Cell<SystemLayout>,
-) -> Result<Lifted, Memory>
-    requires known { (layout.now.inner.tag ≤ 2) × (place < procs) × (procs ≤ PROCESSORS) }
-    ensures part { IfOk result (λ lifted. lifted.part ≡ due_in (ways_in layout.now) procs place cell.old) }
+    cell: &mut Cell<L>,
+) -> Result<Lifted<L::Part>, Memory>
+    requires known { (IsKnownTag (L.shapes layout.now) (L.tag_of layout.now)) × (place < procs) × (procs ≤ PROCESSORS) }
+    ensures part { IfOk result (λ lifted. lifted.part ≡ due_in (L.ways layout.now) procs place cell.old) }
     ensures own { IfOk result (λ lifted. lifted.own ≡ is_some cell.old.part) }
     ensures lifted { OnOk result (cell.new ≡ record cell.old { part = None }) }
     ensures memory { OnErr result (cell.new ≡ cell.old) }
@@ -42,11 +41,11 @@ fn lift_part(
 }
 
 /// Puts a part into a cell again. Where the operation was not made, only its own.
-fn settle(
-    cell: &mut Cell<SystemLayout>,
-    part: Option<SystemPart>,
+fn settle<L: Layout>(
+    cell: &mut Cell<L>,
+    part: Option<L::Part>,
     own: bool,
-    reply: &Result<Reply, Memory>,
+    reply: &Result<L::Reply, Memory>,
 )
     requires { cell.old.part ≡ None }
     ensures made { OnOk reply.now (cell.new ≡ record cell.old { part = part }) }
@@ -61,26 +60,26 @@ fn settle(
 
 /// Makes the operation on the parts of a row, those taken before and those of the cells. Each cell has its part again
 /// afterwards; without memory it is as it was.
-fn step_behind(
+fn step_behind<L: Layout>(
     alloc: Global,
-    layout: &SystemLayout,
+    layout: &L,
     procs: u32,
-    op: &Op,
-    cells: &mut [Cell<SystemLayout>],
-    parts: &mut Vec<SystemPart>,
-) -> Result<Reply, Memory>
-    requires known { (layout.now.inner.tag ≤ 2) × (procs ≤ PROCESSORS) }
-    requires takes { IsTrue ((object_in layout.now).takes op.now) }
+    op: &L::Op,
+    cells: &mut [Cell<L>],
+    parts: &mut Vec<L::Part>,
+) -> Result<L::Reply, Memory>
+    requires known { (IsKnownTag (L.shapes layout.now) (L.tag_of layout.now)) × (procs ≤ PROCESSORS) }
+    requires takes { IsTrue ((L.object layout.now).takes op.now) }
     requires few { length parts.old.items + length cells.old ≤ procs }
     requires room { length parts.old.items + length cells.old ≤ vec_capacity parts.old }
-    requires row { MayStepRow (ways_in layout.now) procs (whole_in layout.now)
-        (row_behind (ways_in layout.now) procs parts.old.items cells.old) op.now }
-    ensures replied { IfOk result (λ reply. reply ≡ (ways_in layout.now).row_reply
-        (row_behind (ways_in layout.now) procs parts.old.items cells.old) op.now) }
-    ensures parts { OnOk result (parts.new.items ≡ take (length parts.old.items) ((ways_in layout.now).row_after
-        (row_behind (ways_in layout.now) procs parts.old.items cells.old) op.now)) }
-    ensures cells { OnOk result (cells.new ≡ filled (drop (length parts.old.items) ((ways_in layout.now).row_after
-        (row_behind (ways_in layout.now) procs parts.old.items cells.old) op.now)) cells.old) }
+    requires row { MayStepRow (L.ways layout.now) procs (L.whole layout.now)
+        (row_behind (L.ways layout.now) procs parts.old.items cells.old) op.now }
+    ensures replied { IfOk result (λ reply. reply ≡ (L.ways layout.now).row_reply
+        (row_behind (L.ways layout.now) procs parts.old.items cells.old) op.now) }
+    ensures parts { OnOk result (parts.new.items ≡ take (length parts.old.items) ((L.ways layout.now).row_after
+        (row_behind (L.ways layout.now) procs parts.old.items cells.old) op.now)) }
+    ensures cells { OnOk result (cells.new ≡ filled (drop (length parts.old.items) ((L.ways layout.now).row_after
+        (row_behind (L.ways layout.now) procs parts.old.items cells.old) op.now)) cells.old) }
     ensures parts_kept { OnErr result (parts.new.items ≡ parts.old.items) }
     ensures cells_kept { OnErr result (cells.new ≡ cells.old) }
 {
@@ -91,27 +90,27 @@ fn step_behind(
     let Lifted { part, own } = lift_part(alloc, layout, procs, place, cell)?;
     parts.push_reserved(part);
     let reply = step_behind(alloc, layout, procs, op, others, parts);
-    settle(cell, parts.pop(), own, &reply);
+    settle::<L>(cell, parts.pop(), own, &reply);
     reply
 }
 
 /// Makes the operation on the parts of a whole row, which the first of its cells have. Without memory they are as they were.
-pub(crate) fn step_row(
+pub(crate) fn step_row<L: Layout>(
     alloc: Global,
-    layout: &SystemLayout,
+    layout: &L,
     procs: u32,
-    op: &Op,
-    cells: &mut [Cell<SystemLayout>],
-) -> Result<Reply, Memory>
-    requires known { (layout.now.inner.tag ≤ 2) × (procs ≤ PROCESSORS) }
-    requires takes { IsTrue ((object_in layout.now).takes op.now) }
-    requires cells { AreRow procs (cells_in layout.now procs) cells.old }
-    requires row { MayStepRow (ways_in layout.now) procs (whole_in layout.now)
-        (parts_from (ways_in layout.now) procs 0 (take (cells_in layout.now procs) cells.old)) op.now }
-    ensures replied { IfOk result (λ reply. reply ≡ (ways_in layout.now).row_reply
-        (parts_from (ways_in layout.now) procs 0 (take (cells_in layout.now procs) cells.old)) op.now) }
-    ensures moved { OnOk result (cells.new ≡ filled ((ways_in layout.now).row_after
-        (parts_from (ways_in layout.now) procs 0 (take (cells_in layout.now procs) cells.old)) op.now) cells.old) }
+    op: &L::Op,
+    cells: &mut [Cell<L>],
+) -> Result<L::Reply, Memory>
+    requires known { (IsKnownTag (L.shapes layout.now) (L.tag_of layout.now)) × (procs ≤ PROCESSORS) }
+    requires takes { IsTrue ((L.object layout.now).takes op.now) }
+    requires cells { AreRow procs (cells_of (shape_at (L.shapes layout.now) (L.tag_of layout.now)) procs) cells.old }
+    requires row { MayStepRow (L.ways layout.now) procs (L.whole layout.now)
+        (parts_from (L.ways layout.now) procs 0 (take (cells_of (shape_at (L.shapes layout.now) (L.tag_of layout.now)) procs) cells.old)) op.now }
+    ensures replied { IfOk result (λ reply. reply ≡ (L.ways layout.now).row_reply
+        (parts_from (L.ways layout.now) procs 0 (take (cells_of (shape_at (L.shapes layout.now) (L.tag_of layout.now)) procs) cells.old)) op.now) }
+    ensures moved { OnOk result (cells.new ≡ filled ((L.ways layout.now).row_after
+        (parts_from (L.ways layout.now) procs 0 (take (cells_of (shape_at (L.shapes layout.now) (L.tag_of layout.now)) procs) cells.old)) op.now) cells.old) }
     ensures memory { OnErr result (cells.new ≡ cells.old) }
 {
     let many = layout.shape().cells(procs) as usize;

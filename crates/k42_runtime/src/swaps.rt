@@ -1,12 +1,14 @@
 //! Swaps, destroys, watches and unwatches, which may be stepped where nobody may wait.
-ghost use Rattle.std.specs.Prelude.{◌≡◌, false, length, None};
+ghost use Rattle.std.specs.Prelude.{◌≡◌, false, None};
 ghost use Rattle.k42_runtime.specs.Swaps.{IsAtStage, HasStepped, is_over};
-ghost use Rattle.k42_runtime.specs.Systems.{IsPassHere};
+ghost use Rattle.k42_runtime.specs.Systems.{IsPassHere, MayLead};
 ghost use Rattle.k42_runtime.specs.declared.swaps.Stage.TheVariants as Stage;
 
-use crate::system::{Pass, System};
+use crate::system::System;
+use k42_clustered::Clustered;
 use k42_kinds::To;
 use k42_quiesce::Grace;
+use k42_rule::Pass;
 use std::alloc::Global;
 use std::marker::Model;
 
@@ -104,9 +106,15 @@ impl Swap {
 
     /// Goes on as far as it can without waiting. It is always stepped with the same pass, which is used for nothing else
     /// meanwhile. For want of memory the swap ends, with nothing begun, or given up.
-    pub fn step(&mut self, alloc: Global, system: &System, pass: &mut Pass) -> Step
+    pub fn step<L: Clustered>(
+        &mut self,
+        alloc: Global,
+        system: &System<L>,
+        pass: &mut Pass<L>,
+    ) -> Step
         requires ours { IsPassHere system.now pass.old }
-        requires stage { IsAtStage self.old.stage (length system.now.plan.objects) self.old pass.old }
+        requires stage { IsAtStage self.old.stage system.now.sys.shapes self.old pass.old }
+        requires leads { MayLead L.leads system.now.plan.objects self.old.object self.old.to }
         requires going { is_over self.old.stage ≡ false }
         ensures { HasStepped system.now result self.old self.new pass.old pass.new }
     {

@@ -1,64 +1,47 @@
 //! A system: its table and its plan.
-ghost use Rattle.std.specs.Prelude.{◌≡◌, ◌%◌, ◌<◌, ◌↔◌, true, Some, length, map, slice_get, IfOk};
-ghost use Rattle.k42_shapes.specs.Shapes.{shared_and_spread};
+ghost use Rattle.std.specs.Prelude.{◌≡◌, ◌%◌, ◌<◌, ◌↔◌, true, Some, length, slice_get, IfOk};
 ghost use Rattle.k42_board.specs.Generating.{active_in, entered_view, left_view};
 ghost use Rattle.k42_board.specs.Log.{last_found, took};
 ghost use Rattle.k42_board.specs.Seen.{IsSamePass};
-ghost use Rattle.k42_board.specs.Views.{live_at, shapes_at};
+ghost use Rattle.k42_board.specs.Views.{live_at};
 ghost use Rattle.k42_board.specs.Words.{exits_word, generation_word};
 ghost use Rattle.k42_board.specs.declared.view.StepName.TheVariants as steps;
 ghost use Rattle.k42_quiesce.specs.Activities.{HasEntered};
 ghost use Rattle.k42_runtime.specs.Calls.{IsAsked};
-ghost use Rattle.k42_runtime.specs.Plans.{kinds_of};
-ghost use Rattle.k42_runtime.specs.Systems.{LIVE, layout_of, IsPassHere, IsAtWork, IsAtRest, HasStarted};
+ghost use Rattle.k42_runtime.specs.Systems.{IsPassHere, IsAtWork, IsAtRest, HasStarted, live_in};
 
-use crate::plan::{ObjectPlan, Plan};
-use co_any::{AnyLayout, AnyPart};
-use k42_kinds::{KindName, Op, is_seen, kind_of};
+use crate::plan::Plan;
+use k42_clustered::Clustered;
+use k42_kinds::Layout;
 use k42_memory::Memory;
-use k42_rule::{Keep, Sys};
-use k42_watch::{Layer, Watch, WatchPart};
+use k42_rule::{Keep, Pass, Sys};
 use std::alloc::Global;
 use std::marker::Model;
 
-/// The layouts in which a system keeps its objects, any of which may have a layer.
-pub(crate) type SystemLayout = Watch<AnyLayout>;
-
-/// The parts of their rows.
-pub(crate) type SystemPart = WatchPart<AnyPart>;
-
-/// What one caller steps with.
-pub type Pass = k42_rule::Pass<SystemLayout>;
-
 /// Clustered objects, each under calls and swaps of any passes.
 #[derive(Drop)]
-pub struct System {
-    pub(crate) sys: Sys<SystemLayout>,
-    pub(crate) plan: Plan,
+pub struct System<L: Layout> {
+    pub(crate) sys: Sys<L>,
+    pub(crate) plan: Plan<L>,
 }
 
-impl Model for System {
-    ghost use Rattle.k42_runtime.specs.Systems.{SystemSeen, IsPlanned};
+impl<L: Layout> Model for System<L> {
+    ghost use Rattle.k42_runtime.specs.Systems.{SystemSeen, IsPlanned, is_live_by};
 
-    ghost Value = { SystemSeen };
+    ghost Value = { SystemSeen L };
 
     ghost view = { λ s. record { sys = s.sys; plan = s.plan } };
 
-    ghost invariant = { λ s. IsPlanned (record { sys = s.sys; plan = s.plan }) };
+    ghost invariant = { λ s. IsPlanned (is_live_by L.shapes L.tag_of) (record { sys = s.sys; plan = s.plan }) };
 }
 
-/// The layouts in which the objects start.
-fn layouts_for(alloc: Global, objects: &[ObjectPlan]) -> Result<Vec<SystemLayout>, Memory>
-    ensures { IfOk result (λ layouts. layouts.items ≡ map layout_of objects.now) }
+/// The same layouts again.
+fn layouts_of<L: Layout>(alloc: Global, objects: &[L]) -> Result<Vec<L>, Memory>
+    ensures { IfOk result (λ copy. copy.items ≡ objects.now) }
 {
-    let mut layouts = Vec::new(alloc);
-    for object in objects {
-        layouts.push(Watch {
-            inner: AnyLayout::of(object.kind, object.layout),
-            layer: Layer::Keep,
-        })?;
-    }
-    Ok(layouts)
+    let mut copy = Vec::new(alloc);
+    copy.extend_from_slice(objects)?;
+    Ok(copy)
 }
 
 /// The same numbers again.
@@ -71,36 +54,35 @@ fn copied(alloc: Global, homes: &[u32]) -> Result<Vec<u32>, Memory>
 }
 
 /// What a pass was told of an object's layouts is what the declared one tells.
-pub(crate) fn layouts_are_told(system: &System, pass: &Pass, object: u32)
+pub(crate) fn layouts_are_told<L: Layout>(system: &System<L>, pass: &Pass<L>, object: u32)
     requires ours { IsPassHere system.now pass.now }
-    requires there { object < length system.now.plan.objects }
-    ensures shapes { shapes_at pass.now.view object ≡ shared_and_spread }
-    ensures live { live_at pass.now.view object ≡ LIVE }
+    requires there { object < length system.now.sys.shapes }
+    ensures live { live_at pass.now.view object ≡ live_in system.now.sys.shapes object }
 {
     let _declared = system.sys.declared(object);
 }
 
-impl System {
+impl<L: Clustered> System<L> {
     /// A system of empty objects, and its passes in the order of the plan's callers.
-    pub fn start(alloc: Global, plan: Plan) -> Result<(System, Vec<Pass>), Memory>
-        ensures { IfOk result (λ made. HasStarted plan made.0 made.1.items) }
+    pub fn start(alloc: Global, plan: Plan<L>) -> Result<(System<L>, Vec<Pass<L>>), Memory>
+        ensures { IfOk result (λ made. HasStarted L.Layout plan made.0 made.1.items) }
     {
-        let layouts = layouts_for(alloc, plan.objects.as_slice())?;
+        let layouts = layouts_of(alloc, plan.objects.as_slice())?;
         let callers = copied(alloc, plan.callers.as_slice())?;
         let (sys, passes) = Sys::start(alloc, layouts, plan.procs, callers, plan.keep)?;
         Ok((System { sys, plan }, passes))
     }
 
-    /// The kind of an object.
-    pub fn kind_of(&self, object: u32) -> KindName
+    /// The layout with which an object was started.
+    pub fn declared(&self, object: u32) -> L
         requires { object < length self.now.plan.objects }
-        ensures { slice_get (kinds_of self.now.plan) object ≡ Some result }
+        ensures { slice_get self.now.plan.objects object ≡ Some result }
     {
-        self.plan.objects[object as usize].kind
+        self.plan.objects[object as usize]
     }
 
     /// Its table, for whoever takes the phases of a swap one by one.
-    pub fn table(&self) -> &Sys<SystemLayout>
+    pub fn table(&self) -> &Sys<L>
         ensures { result.now ≡ self.now.sys }
     {
         &self.sys
@@ -116,7 +98,8 @@ impl System {
 
     /// How many objects it has.
     pub fn objects(&self) -> u32
-        ensures { result ≡ length self.now.plan.objects }
+        ensures plan { result ≡ length self.now.plan.objects }
+        ensures table { result ≡ length self.now.sys.shapes }
     {
         self.plan.objects.len() as u32
     }
@@ -128,21 +111,18 @@ impl System {
         self.plan.callers.len() as u32
     }
 
-    /// Whether there is such an object, and whether the operation is of its kind or asks for its count.
-    pub fn takes(&self, object: u32, op: &Op) -> bool
-        ensures { (result ≡ true) ↔ IsAsked self.now.plan object op.now }
+    /// Whether there is such an object, and whether it takes the operation.
+    pub fn takes(&self, object: u32, op: &L::Op) -> bool
+        ensures { (result ≡ true) ↔ IsAsked L.object self.now.plan.objects object op.now }
     {
         match self.plan.objects.get(object as usize) {
-            Some(declared) => match kind_of(op) {
-                Some(kind) => declared.kind == kind,
-                None => is_seen(op),
-            },
+            Some(declared) => declared.takes(op),
             None => false,
         }
     }
 
     /// Begins an activity, in which the pass may call.
-    pub fn enter(&self, pass: &mut Pass)
+    pub fn enter(&self, pass: &mut Pass<L>)
         requires ours { IsPassHere self.now pass.old }
         requires rests { IsAtRest pass.old.view }
         ensures here { IsPassHere self.now pass.new }
@@ -156,7 +136,7 @@ impl System {
     }
 
     /// Ends the activity.
-    pub fn leave(&self, pass: &mut Pass)
+    pub fn leave(&self, pass: &mut Pass<L>)
         requires ours { IsPassHere self.now pass.old }
         requires works { IsAtWork pass.old.view }
         ensures here { IsPassHere self.now pass.new }

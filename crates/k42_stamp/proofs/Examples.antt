@@ -3,7 +3,6 @@ use Rattle.std.proofs.Common.{◌≡◌, ℕ, zero, suc, ◌-◌, ◌%◌, ◌^�
 use Rattle.std.specs.List.{AllByRecursion}
 use Rattle.k42_kinds.specs.declared.operation.Op.{Op}
 use Rattle.k42_kinds.specs.declared.operation.Op.TheVariants.{Add, Get, Drain}
-use Rattle.k42_kinds.specs.declared.operation.LayoutName.TheVariants.{Spread}
 use Rattle.k42_kinds.specs.declared.operation.Reply.{Reply}
 use Rattle.k42_kinds.specs.declared.operation.Reply.TheVariants.{Done, Number}
 use Rattle.k42_shapes.specs.Shapes.{shared_and_spread}
@@ -48,7 +47,7 @@ two = record {
   Whole = λ _ procs parts. length parts ≡ procs;
   Serves = λ _ value. value < 2 ^ 64;
   admitted = λ _ value. value;
-  act_of = λ _. Swap (Layout Spread);
+  act_of = λ _. Swap (Layout 1);
   procs = 2;
   proc_of = λ caller. caller % 2;
 }
@@ -153,7 +152,7 @@ read_once fits = cc (fits.left 1 (omega arith))
 
 -- the row is handed on with what it holds
 abbrev swap : Entry Op Reply
-swap = record { stamp = 3; caller = 1; index = 0; object = 0; incarnation = 0; cell = 8; act = Swap (Layout Spread); answer = Swapped 1; proc = 1; generation = None }
+swap = record { stamp = 3; caller = 1; index = 0; object = 0; incarnation = 0; cell = 8; act = Swap (Layout 1); answer = Swapped 1; proc = 1; generation = None }
 
 after_all : (cell : ℕ) → cell < 2 → AllByRecursion (IsLater swap) (histories 0 cell)
 after_all zero lt = (omega arith, (omega arith, tt))

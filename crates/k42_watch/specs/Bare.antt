@@ -1,6 +1,5 @@
 -- Layouts that know of no layer: what is asked of them and of their objects.
-use Rattle.std.specs.Prelude.{◌≡◌, ◌≢◌, ◌⊎◌, Bool, true, false, None}
-use Rattle.k42_kinds.specs.declared.operation.LayoutName.{LayoutName}
+use Rattle.std.specs.Prelude.{◌≡◌, ◌≢◌, ◌⊎◌, ℕ, Bool, true, false, None}
 use Rattle.k42_kinds.specs.declared.entry.Act.{Act}
 use Rattle.k42_kinds.specs.declared.entry.Act.TheVariants.{Swap}
 use Rattle.k42_kinds.specs.declared.entry.To.{To}
@@ -19,11 +18,11 @@ pub record TakesNoSeen {S O R : Type 0} (asking : Asking O R) (object : OneThrea
 abbrev pub KeepsState : {S O R : Type 0} → OneThread S O R → Type 0
 KeepsState {S} object = (state : S) (to : To) → to ≢ Dead → object.swapped state to ≡ state
 
--- a live layout is asked for by its name
-pub record AsksForName {O : Type 0} (dead : Bool) (asked : Act O) : Type 0 where
+-- a live layout is asked for by a number
+pub record AsksForNumber {O : Type 0} (dead : Bool) (asked : Act O) : Type 0 where
   pub live : dead ≡ false
-  pub name : LayoutName
-  pub act : asked ≡ Swap (Layout name)
+  pub number : ℕ
+  pub act : asked ≡ Swap (Layout number)
 
 -- and the dead one by a destroy
 pub record AsksForEnd {O : Type 0} (dead : Bool) (asked : Act O) : Type 0 where
@@ -31,4 +30,4 @@ pub record AsksForEnd {O : Type 0} (dead : Bool) (asked : Act O) : Type 0 where
   pub act : asked ≡ Swap Dead
 
 abbrev pub AsksByTag : {O : Type 0} → Bool → Act O → Type 0
-AsksByTag dead asked = AsksForName dead asked ⊎ AsksForEnd dead asked
+AsksByTag dead asked = AsksForNumber dead asked ⊎ AsksForEnd dead asked

@@ -17,7 +17,6 @@ use Rattle.k42_kinds.specs.declared.entry.Act.{Act}
 use Rattle.k42_kinds.specs.declared.entry.Act.TheVariants.{Swap}
 use Rattle.k42_kinds.specs.declared.entry.To.TheVariants as tos
 use Rattle.k42_kinds.specs.declared.entry.Answer.TheVariants.{Swapped}
-use Rattle.k42_kinds.specs.declared.operation.LayoutName.{LayoutName}
 use Rattle.k42_kinds.specs.declared.watch.WatchState.{WatchState}
 use Rattle.k42_watch.specs.Bare.{TakesNoSeen, KeepsState, AsksByTag}
 use Rattle.k42_watch.specs.WatchedRows.{inners, seens, count_of, CountsNot, IsSmall, AreAlike, Within, within, asking_reach, watched_ways, IsWatchedRow, ServesWatched}
@@ -268,7 +267,7 @@ admits_watched Serves admitted known layer state small served = record {
 }
 
 -- a swap to a live layout leaves the state, and so do a watch and an unwatch
-module _ {S O R : Type 0} (asking : Asking O R) (o : OneThread S O R) (keeps : KeepsState o) (inner admitted : S) (seen : Option ℕ) (number : ℕ) (act : Act O) (name : LayoutName)
+module _ {S O R : Type 0} (asking : Asking O R) (o : OneThread S O R) (keeps : KeepsState o) (inner admitted : S) (seen : Option ℕ) (number : ℕ) (act : Act O) (name : ℕ)
     (is : act ≡ Swap (tos.Layout name)) (same : o.swapped inner (tos.Layout name) ≡ admitted) where
   left : inner ≡ admitted
   left = sym (keeps inner (tos.Layout name) (λ dead. cc dead)) ∙ same
@@ -282,7 +281,7 @@ pub swaps_watched : {S O R : Type 0} (asking : Asking O R) (o : OneThread S O R)
     → AdmitsAsSwapped o act state.inner (admitted state.inner) → AdmitsAsSwapped (watched asking o) (watched_act known.dead layer act) state (admitted_watched known.dead layer admitted state)
 swaps_watched {O} asking o admitted known layer act state keeps (inl live) swaps number =
     ap (λ (b : Bool). state_moved (watched asking o) state (if b then Swap tos.Dead else act_under layer act) (Swapped number)) live.live
-    ∙ swaps_live asking o keeps state.inner (admitted state.inner) state.seen number act live.name live.act
+    ∙ swaps_live asking o keeps state.inner (admitted state.inner) state.seen number act live.number live.act
     (subst (λ (asked : Act O). state_moved o state.inner asked (Swapped number) ≡ admitted state.inner) live.act (swaps number)) layer
     ∙ ap (λ (b : Bool). watch_state (admitted state.inner) (if b then None else seen_under layer state.seen)) (sym live.live)
 swaps_watched {O} asking o admitted known layer act state keeps (inr dead) swaps number =

@@ -1,5 +1,5 @@
 -- Rows of parts that count, and what a watched layout does with them.
-use Rattle.std.specs.Prelude.{◌≡◌, ℕ, ◌+◌, ◌%◌, ◌^◌, ◌<◌, ◌⊎◌, Bool, true, if◌then◌else◌, List, [], ◌∷◌, map, Option, Some, None}
+use Rattle.std.specs.Prelude.{⊤, ◌≡◌, ℕ, ◌+◌, ◌%◌, ◌^◌, ◌<◌, ◌⊎◌, Bool, true, if◌then◌else◌, List, [], ◌∷◌, map, Option, Some, None}
 use Rattle.std.specs.List.{AllByRecursion}
 use Rattle.k42_shapes.specs.declared.shape.Shape.{Shape}
 use Rattle.k42_shapes.specs.declared.shape.Shape.TheVariants as shapes
@@ -10,6 +10,7 @@ use Rattle.k42_kinds.specs.declared.entry.Reach.{Reach}
 use Rattle.k42_kinds.specs.declared.entry.Reach.TheVariants.{One, All}
 use Rattle.k42_kinds.specs.declared.entry.Act.{Act}
 use Rattle.k42_kinds.specs.declared.entry.Act.TheVariants.{Swap}
+use Rattle.k42_kinds.specs.declared.entry.To.{To}
 use Rattle.k42_kinds.specs.declared.entry.To.TheVariants as tos
 use Rattle.k42_kinds.specs.declared.watch.WatchState.{WatchState}
 use Rattle.k42_watch.specs.declared.watch.Layer.{Layer}
@@ -126,6 +127,12 @@ admitted_watched dead layer admitted state =
     watch_state (admitted state.inner) (if dead then None else seen_under layer state.seen)
 
 -- what is asked of an object that is to be kept so: a live layout may place the layer, or take it
+-- each can be watched and unwatched in the layout that it is in, and led to where it can be led without a layer
+abbrev pub LeadsWatched : (To → Type 0) → To → Type 0
+LeadsWatched Leads tos.Watch = ⊤
+LeadsWatched Leads tos.Unwatch = ⊤
+LeadsWatched Leads to = Leads to
+
 abbrev pub act_under : {O : Type 0} → Layer → Act O → Act O
 act_under Keep act = act
 act_under Place act = Swap tos.Watch

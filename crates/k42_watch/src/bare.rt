@@ -31,7 +31,7 @@ pub trait Bare: Layout {
     /// Every swap of its object but a destroy leaves the state.
     ghost keeps_state: { (layout : Self) → KeepsState (Self.object layout) };
 
-    /// A live layout is asked for by its name, and the dead one by a destroy.
+    /// A live layout is asked for by a number, and the dead one by a destroy.
     ghost asks_by_tag: { (layout : Self) → IsKnownTag (Self.shapes layout) (Self.tag_of layout)
         → AsksByTag (is_dead_tag (Self.shapes layout) (Self.tag_of layout)) (Self.act_of layout) };
 }

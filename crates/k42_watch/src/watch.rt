@@ -4,12 +4,13 @@ ghost use Rattle.k42_kinds.specs.LayoutLaws.{IsTagged};
 ghost use Rattle.k42_kinds.specs.Watched.{watched};
 ghost use Rattle.k42_shapes.specs.Shapes.{is_dead_tag};
 ghost use Rattle.k42_watch.specs.WatchedRows as rows;
-ghost use Rattle.k42_watch.specs.WatchedRows.{inners, watched_ways, IsWatchedRow, ServesWatched, admitted_watched, watched_act};
+ghost use Rattle.k42_watch.specs.WatchedRows.{inners, watched_ways, IsWatchedRow, LeadsWatched, ServesWatched, admitted_watched, watched_act};
 ghost use Rattle.k42_watch.specs.WatchLaws as laws;
 ghost use Rattle.k42_watch.specs.declared.watch.Layer.TheVariants.{Keep};
 
 use crate::bare::Bare;
 use crate::rows::{count_made, count_of, put_together, shared_out, take_apart};
+use k42_clustered::Clustered;
 use k42_kinds::{Act, Kind, Layout, Reach, To, WatchState, counted};
 use k42_memory::Memory;
 use k42_shapes::Shape;
@@ -55,6 +56,10 @@ impl<L: Bare> Kind for Watch<L> {
         }
     }
 
+    fn takes(&self, op: &L::Op) -> bool {
+        L::asks_count(op) || self.inner.takes(op)
+    }
+
     fn step(
         &self,
         alloc: Global,
@@ -89,6 +94,8 @@ impl<L: Bare> Layout for Watch<L> {
 
     ghost act_of = { λ watch. watched_act (is_dead_tag (L.shapes watch.inner) (L.tag_of watch.inner)) watch.layer (L.act_of watch.inner) };
 
+    ghost leads = { λ watch. LeadsWatched (L.leads watch.inner) };
+
     fn tag(&self) -> u32 {
         self.inner.tag()
     }
@@ -110,6 +117,15 @@ impl<L: Bare> Layout for Watch<L> {
             inner: self.inner.with_tag(tag),
             layer: Layer::Keep,
         }
+    }
+
+    fn target(&self, to: To, present: u32) -> Self {
+        let (inner, layer) = match to {
+            To::Layout(_) | To::Dead => (self.inner.target(to, present), Layer::Keep),
+            To::Watch => (self.inner.with_tag(present), Layer::Place),
+            To::Unwatch => (self.inner.with_tag(present), Layer::Take),
+        };
+        Watch { inner, layer }
     }
 
     fn reach(&self, op: &L::Op, proc: u32, procs: u32) -> Reach {
@@ -272,4 +288,12 @@ impl<L: Bare> Layout for Watch<L> {
         (λ i. rows.within (L.alike watch.inner other.inner (laws.inner_same L.asking (L.object watch.inner) (L.object other.inner) (L.takes_no_seen watch.inner)
         (L.takes_no_seen other.inner) same) i) (tags i))
         (L.agrees watch.inner other.inner (laws.inner_same L.asking (L.object watch.inner) (L.object other.inner) (L.takes_no_seen watch.inner) (L.takes_no_seen other.inner) same) tags) };
+}
+
+impl<L: Bare + Clustered> Clustered for Watch<L> {
+    fn blank_reply() -> L::Reply {
+        L::blank_reply()
+    }
+
+    ghost has_all = { λ watch tag known. L.has_all watch.inner tag known };
 }

@@ -19,7 +19,8 @@ use Rattle.script_text.specs.declared.script.Item.{Item}
 use Rattle.script_text.specs.declared.script.Item.TheVariants.{Begin, End, Line}
 use Rattle.script_text.specs.declared.script.WorkerLines.{WorkerLines}
 use Rattle.k42_board.specs.declared.view.PassView.{PassView}
-use Rattle.k42_runtime.specs.Systems.{SystemPart, SystemPass, SystemSeen, IsPassHere, IsAtRest}
+use Rattle.co_system.specs.Systems.{SystemPart, SystemPass, SystemSeen}
+use Rattle.k42_runtime.specs.Systems.{IsPassHere, IsAtRest}
 use Rattle.k42_workers.specs.Lines.{Standing, Follows}
 use Rattle.k42_workers.specs.Passes.{MayAskLine, IsReady, standing_of, IsBetween, RestsFor, MayFollow, GoesOnBy, IsFresh, HasWorked, MayWork}
 use Rattle.k42_workers.proofs.Halved.{pair_front, pair_back}

@@ -22,9 +22,9 @@ use Rattle.k42_board.specs.Seen.{is_at_rest}
 use Rattle.k42_board.specs.declared.keep.Keep.TheVariants as keeps
 use Rattle.k42_board.specs.declared.view.PassView.{PassView}
 use Rattle.k42_rule.specs.Finishing.{lists_in}
-use Rattle.k42_runtime.specs.Histories.{HistorySeen, IsClosed, MayClose}
-use Rattle.k42_runtime.specs.Plans as plans
-use Rattle.k42_runtime.specs.Systems.{SystemPart, SystemPass, SystemSeen, HasStarted}
+use Rattle.co_system.specs.Legal as plans
+use Rattle.co_system.specs.Systems.{HistorySeen, IsClosed, HasStarted, PlanSeen, SystemPart, SystemPass, SystemSeen, kinds_of}
+use Rattle.k42_runtime.specs.Histories.{MayClose}
 use Rattle.k42_workers.specs.Passes.{IsReady, AreFresh, HasWorked, HaveWorked, MayWork}
 use Rattle.k42_workers.specs.Plans.{plan_of, idle_plan, asks}
 use Rattle.k42_workers.specs.Workers.{IsMadeBy, IsRunOf}
@@ -68,7 +68,7 @@ module _ (script : Script) (system : SystemSeen) where
   pub worked_out : (passes : List SystemPass) → system.plan ≡ plan_of script → length passes ≡ length script.workers → HaveWorked system 0 script.workers passes → system.sys.keep ≡ keeps.All → MayClose system passes
   worked_out passes planned crew worked keep = record {
     may_end = record {
-      many = omega (arith, crew, ap (λ (plan : plans.PlanSeen). length plan.callers) planned, length-map script.workers (λ (w : WorkerLines). w.proc));
+      many = omega (arith, crew, ap (λ (plan : PlanSeen). length plan.callers) planned, length-map script.workers (λ (w : WorkerLines). w.proc));
       each = λ number pass there.
           let done = (worked_by passes crew worked number pass there).1 in
           let plain : 0 + number ≡ number = omega arith in
@@ -80,7 +80,7 @@ module _ (script : Script) (system : SystemSeen) where
   -- the closed history is that of a run
   pub run_closed : (passes : List SystemPass) (history : HistorySeen) → system.plan ≡ plan_of script → IsSound script → length passes ≡ length script.workers → HaveWorked system 0 script.workers passes → IsClosed system.plan (lists_in passes) history → IsRunOf script history.entries
   run_closed passes history planned sound crew worked closed = record {
-    legal = subst (λ kinds. IsLegalHistory kinds history.entries) (ap plans.kinds_of planned ∙ kinds_planned script sound) closed.legal;
+    legal = subst (λ kinds. IsLegalHistory kinds history.entries) (ap kinds_of planned ∙ kinds_planned script sound) (plans.legal system.plan history.entries closed.legal);
     each = λ number worker found.
         let pass = found_at passes number (omega (arith, crew, slice_get_within script.workers number worker found)) in
         let done = worked number worker pass.0 found pass.1 in
@@ -90,7 +90,7 @@ module _ (script : Script) (system : SystemSeen) where
           done = done.done;
         };
     no_stranger = λ k d less.
-        let callers : length system.plan.callers ≡ length script.workers = ap (λ (plan : plans.PlanSeen). length plan.callers) planned ∙ length-map script.workers (λ (w : WorkerLines). w.proc) in
+        let callers : length system.plan.callers ≡ length script.workers = ap (λ (plan : PlanSeen). length plan.callers) planned ∙ length-map script.workers (λ (w : WorkerLines). w.proc) in
         omega (arith, callers, closed.no_stranger k d less);
   }
 
@@ -130,14 +130,14 @@ whole new items n many as_before =
     rw (none, append-nil new) (take_all n new (omega (arith, many)))
 
 -- a started system keeps what its plan says
-pub started_keep : (plan : plans.PlanSeen) (system : SystemSeen) (passes : List SystemPass) → HasStarted plan system passes → system.sys.keep ≡ plan.keep
-started_keep plan system passes started = started.planned.keep ∙ ap (λ (p : plans.PlanSeen). p.keep) started.plan_is
+pub started_keep : (plan : PlanSeen) (system : SystemSeen) (passes : List SystemPass) → HasStarted plan system passes → system.sys.keep ≡ plan.keep
+started_keep plan system passes started = started.planned.keep ∙ ap (λ (p : PlanSeen). p.keep) started.plan_is
 
 -- passes that have just started, and keep all entries, may be closed
-pub started_at_rest : (plan : plans.PlanSeen) (system : SystemSeen) (passes : List SystemPass) → HasStarted plan system passes → plan.keep ≡ keeps.All → MayClose system passes
+pub started_at_rest : (plan : PlanSeen) (system : SystemSeen) (passes : List SystemPass) → HasStarted plan system passes → plan.keep ≡ keeps.All → MayClose system passes
 started_at_rest plan system passes started keep = record {
   may_end = record {
-    many = started.many ∙ ap (λ (p : plans.PlanSeen). length p.callers) (sym started.plan_is);
+    many = started.many ∙ ap (λ (p : PlanSeen). length p.callers) (sym started.plan_is);
     each = λ number pass there.
         let first = started.each number pass there in
         record {
@@ -156,5 +156,5 @@ idle_closed system passes history started closed =
     let mine : pass.0.view.taker.mine ≡ [] = ap (λ (v : PassView SystemPart Op Reply). v.taker.mine) (started.each 0 pass.0 pass.1).new in
     let order = closed.in_order 0 pass.0.view.taker.mine (slice_get-map (λ (p : SystemPass). p.view.taker.mine) passes 0 ∙ ap (option_map (λ (p : SystemPass). p.view.taker.mine)) pass.1) in
     drawn_by_none history.entries
-    (λ k d less. omega (arith, closed.no_stranger k d less, ap (λ (plan : plans.PlanSeen). length plan.callers) started.plan_is))
+    (λ k d less. omega (arith, closed.no_stranger k d less, ap (λ (plan : PlanSeen). length plan.callers) started.plan_is))
     (order.same ∙ ap (map unstamped) mine)

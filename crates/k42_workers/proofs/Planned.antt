@@ -12,7 +12,12 @@ use Rattle.k42_limits.specs.declared.TheConstants.{PROCESSORS, OBJECTS, CALLERS}
 use Rattle.k42_kinds.specs.declared.operation.Op.{Op}
 use Rattle.k42_kinds.specs.declared.entry.Act.{Act}
 use Rattle.k42_kinds.specs.declared.entry.Act.TheVariants.{Call, Swap}
+use Rattle.k42_kinds.specs.declared.entry.To.{To}
+use Rattle.k42_kinds.specs.declared.entry.To.TheVariants.{Layout, Dead, Watch, Unwatch}
 use Rattle.k42_kinds.specs.declared.operation.KindName.{KindName}
+use Rattle.k42_kinds.specs.declared.operation.LayoutName.{LayoutName}
+use Rattle.k42_kinds.specs.declared.operation.LayoutName.TheVariants.{Shared, Spread}
+use Rattle.script_text.specs.Acts.{HasWord}
 use Rattle.script_text.specs.Lawful as lawful
 use Rattle.script_text.specs.Lawful.{call_lines}
 use Rattle.script_text.specs.Sound.{IsSound, IsSoundLine, IsSoundWorker, IsActOn}
@@ -22,11 +27,10 @@ use Rattle.script_text.specs.declared.script.Item.TheVariants.{Begin, End, Line}
 use Rattle.script_text.specs.declared.script.ObjectLine.{ObjectLine}
 use Rattle.script_text.specs.declared.script.Script.{Script}
 use Rattle.script_text.specs.declared.script.WorkerLines.{WorkerLines}
-use Rattle.k42_runtime.specs.Plans as plans
-use Rattle.k42_runtime.specs.Plans.{plan_fault, stray_from, is_within}
-use Rattle.k42_runtime.specs.declared.plan.ObjectPlan.{ObjectPlan}
+use Rattle.co_system.specs.Systems.{MayLead, PlanSeen, SystemLayout, is_live, kept_as, kinds_of, plan_fault}
+use Rattle.k42_runtime.specs.Plans.{dead_from, stray_from, is_within}
 use Rattle.k42_workers.specs.Passes.{MayAsk, IsReady}
-use Rattle.k42_workers.specs.Plans.{object_plan, plan_of, is_line, asks}
+use Rattle.k42_workers.specs.Plans.{layout_of, plan_of, is_line, asks}
 use Rattle.k42_workers.proofs.Filtered.{All-found}
 
 within : (limit count : ℕ) → 0 < count → count ≤ limit → is_within limit count ≡ true
@@ -76,6 +80,22 @@ nowhere_astray procs first (worker ∷ workers) placed =
     let here : ltb worker.proc procs ≡ true = grind (arith, nat_tests, placed 0 worker refl) in
     rw here (nowhere_astray procs (first + 1) workers (λ number other found. placed (suc number) other found))
 
+-- an object of a script starts in a live layout
+starts_live : (kind : KindName) (layout : LayoutName) → is_live (kept_as kind layout) ≡ true
+starts_live kind Shared = refl
+starts_live kind Spread = refl
+
+none_dead : (first : ℕ) (objects : List ObjectLine) → dead_from is_live first (map layout_of objects) ≡ None
+none_dead first [] = refl
+none_dead first (object ∷ objects) = rw (starts_live object.kind object.layout) (none_dead (first + 1) objects)
+
+-- a swap that has a word leads to a layout of any object
+leads : (plan : PlanSeen) (object : ℕ) (to : To) → HasWord to → MayLead plan object to
+leads plan object (Layout number) named = λ declaration there. named
+leads plan object Dead named = λ declaration there. tt
+leads plan object Watch named = λ declaration there. tt
+leads plan object Unwatch named = λ declaration there. tt
+
 module _ (script : Script) (sound : IsSound script) where
   sound_worker : (number : ℕ) (worker : WorkerLines) → slice_get script.workers number ≡ Some worker → IsSoundWorker script worker
   sound_worker number worker found = All-found (IsSoundWorker script) script.workers number worker sound.workers found
@@ -95,19 +115,20 @@ module _ (script : Script) (sound : IsSound script) where
       let objects : 0 < length script.objects = some_object first.worker.items (sound_worker first.number first.worker first.found).lines (has_line first.worker.items first.asked) in
       let workers : 0 < length script.workers = omega (arith, slice_get_within script.workers first.number first.worker first.found) in
       let a : is_within PROCESSORS script.procs ≡ true = within PROCESSORS script.procs (omega (arith, sound.some_processor)) sound.processors in
-      let b : is_within OBJECTS (length (map object_plan script.objects)) ≡ true = within OBJECTS (length (map object_plan script.objects)) (omega (arith, objects, length-map script.objects object_plan)) (omega (arith, sound.objects, length-map script.objects object_plan)) in
+      let b : is_within OBJECTS (length (map layout_of script.objects)) ≡ true = within OBJECTS (length (map layout_of script.objects)) (omega (arith, objects, length-map script.objects layout_of)) (omega (arith, sound.objects, length-map script.objects layout_of)) in
       let homes = map (λ (worker : WorkerLines). worker.proc) script.workers in
       let c : is_within CALLERS (length homes) ≡ true = within CALLERS (length homes) (omega (arith, workers, length-map script.workers (λ (worker : WorkerLines). worker.proc))) (omega (arith, sound.callers, length-map script.workers (λ (worker : WorkerLines). worker.proc))) in
-      rw (a, b, c) (nowhere_astray script.procs 0 script.workers (λ number worker found. (sound_worker number worker found).processor))
+      let d : stray_from script.procs 0 homes ≡ None = nowhere_astray script.procs 0 script.workers (λ number worker found. (sound_worker number worker found).processor) in
+      rw (a, b, c, d) (none_dead 0 script.objects)
 
   -- the plan declares the kinds of the script
-  pub kinds_planned : plans.kinds_of (plan_of script) ≡ lawful.kinds_of script
-  kinds_planned = map-map (λ (object : ObjectPlan). object.kind) object_plan script.objects
+  pub kinds_planned : kinds_of (plan_of script) ≡ lawful.kinds_of script
+  kinds_planned = map-map (λ (layout : SystemLayout). layout.inner.kind) layout_of script.objects
 
   record IsDeclared (object : ℕ) (kind : KindName) : Type 0 where
-    declaration : ObjectPlan
+    declaration : SystemLayout
     there : slice_get (plan_of script).objects object ≡ Some declaration
-    of_kind : declaration.kind ≡ kind
+    of_kind : declaration.inner.kind ≡ kind
 
   declared : (object : ℕ) (kind : KindName) → slice_get (lawful.kinds_of script) object ≡ Some kind → IsDeclared object kind
   declared object kind there = by (slice_get script.objects object) refl
@@ -115,8 +136,8 @@ module _ (script : Script) (sound : IsSound script) where
       by : (found : Option ObjectLine) → slice_get script.objects object ≡ found → IsDeclared object kind
       by None none = let no : None ≡ Some kind = sym (ap (option_map (λ (o : ObjectLine). o.kind)) none) ∙ sym (slice_get-map (λ (o : ObjectLine). o.kind) script.objects object) ∙ there in cc
       by (Some line) is = record {
-        declaration = object_plan line;
-        there = slice_get-map object_plan script.objects object ∙ ap (option_map object_plan) is;
+        declaration = layout_of line;
+        there = slice_get-map layout_of script.objects object ∙ ap (option_map layout_of) is;
         of_kind = same_Some line.kind kind (sym (ap (option_map (λ (o : ObjectLine). o.kind)) is) ∙ sym (slice_get-map (λ (o : ObjectLine). o.kind) script.objects object) ∙ there);
       }
 
@@ -126,7 +147,7 @@ module _ (script : Script) (sound : IsSound script) where
     declares = is.there;
     takes = rw is.of_kind on.0;
   }
-  may_ask object kind (Swap to) is on = slice_get_within (plan_of script).objects object is.declaration is.there
+  may_ask object kind (Swap to) is on = (slice_get_within (plan_of script).objects object is.declaration is.there, leads (plan_of script) object to on)
 
   ready : (number : ℕ) (worker : WorkerLines) → slice_get script.workers number ≡ Some worker → IsReady (plan_of script) worker
   ready number worker found =

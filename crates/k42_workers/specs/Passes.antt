@@ -18,16 +18,15 @@ use Rattle.k42_board.specs.Log.{last_found, step_at}
 use Rattle.k42_board.specs.Words.{generation_word}
 use Rattle.k42_board.specs.declared.view.PassView.{PassView}
 use Rattle.k42_board.specs.declared.view.StepName.TheVariants as steps
-use Rattle.k42_runtime.specs.Calls.{IsAsked}
-use Rattle.k42_runtime.specs.Plans.{PlanSeen}
-use Rattle.k42_runtime.specs.Systems.{SystemPass, SystemSeen, IsPassHere, IsAtRest}
+use Rattle.co_system.specs.Systems.{IsAsked, MayLead, PlanSeen, SystemPass, SystemSeen}
+use Rattle.k42_runtime.specs.Systems.{IsPassHere, IsAtRest}
 use Rattle.k42_workers.specs.Lines.{Standing}
 use Rattle.k42_workers.specs.Workers.{HasDoneLines}
 
--- the act may be asked of the object
+-- the act may be asked of the object, and a swap leads to a layout of it
 abbrev pub MayAsk : PlanSeen → ℕ → Act Op → Type 0
 MayAsk plan object (Call op) = IsAsked plan object op
-MayAsk plan object (Swap to) = object < length plan.objects
+MayAsk plan object (Swap to) = (object < length plan.objects) × MayLead plan object to
 
 abbrev pub MayAskLine : PlanSeen → CallLine → Type 0
 MayAskLine plan line = MayAsk plan line.object line.act

@@ -9,17 +9,17 @@ use Rattle.script_text.specs.declared.script.ObjectLine.{ObjectLine}
 use Rattle.script_text.specs.declared.script.Script.{Script}
 use Rattle.script_text.specs.declared.script.WorkerLines.{WorkerLines}
 use Rattle.k42_board.specs.declared.keep.Keep.TheVariants.{All}
-use Rattle.k42_runtime.specs.Plans.{PlanSeen}
-use Rattle.k42_runtime.specs.declared.plan.ObjectPlan.{ObjectPlan}
+use Rattle.co_system.specs.Systems.{PlanSeen, SystemLayout, kept_as}
 
-abbrev pub object_plan : ObjectLine → ObjectPlan
-object_plan object = record { kind = object.kind; layout = object.layout }
+-- how an object of a script starts
+abbrev pub layout_of : ObjectLine → SystemLayout
+layout_of object = kept_as object.kind object.layout
 
 -- the script's processors, its objects in their kinds and layouts, its workers on their processors, and all entries kept
 abbrev pub plan_of : Script → PlanSeen
 plan_of script = record {
   procs = script.procs;
-  objects = map object_plan script.objects;
+  objects = map layout_of script.objects;
   callers = map (λ worker. worker.proc) script.workers;
   keep = All;
 }
@@ -28,7 +28,7 @@ plan_of script = record {
 abbrev pub idle_plan : PlanSeen
 idle_plan = record {
   procs = 1;
-  objects = record { kind = Counter; layout = Shared } ∷ [];
+  objects = kept_as Counter Shared ∷ [];
   callers = 0 ∷ [];
   keep = All;
 }

@@ -7,7 +7,8 @@ use Rattle.script_text.specs.Lawful.{call_lines, deed_of, deeds_from}
 use Rattle.script_text.specs.Sound.{BlocksMatch}
 use Rattle.script_text.specs.declared.script.WorkerLines.{WorkerLines}
 use Rattle.record_text.specs.Told.{blocks_from, blocks_of}
-use Rattle.k42_runtime.specs.Systems.{SystemPass, SystemSeen, IsPassHere}
+use Rattle.co_system.specs.Systems.{SystemPass, SystemSeen}
+use Rattle.k42_runtime.specs.Systems.{IsPassHere}
 use Rattle.k42_workers.specs.Lines.{Standing, IsLatest}
 use Rattle.k42_workers.specs.Passes.{standing_of, IsBetween}
 use Rattle.k42_workers.specs.Workers.{IsMadeBy, StayInStep}

@@ -2,16 +2,16 @@
 ghost use Rattle.std.specs.Prelude.{◌≡◌, ◌<◌, Bool, true, false, None, OnOk, IfOk, length, is_some, if◌then◌else◌};
 ghost use Rattle.k42_kinds.specs.declared.entry.Act.TheVariants as acts;
 ghost use Rattle.k42_limits.specs.declared.TheConstants.{PASS_ENTRIES};
-ghost use Rattle.k42_runtime.specs.Calls.{IsAsked};
+ghost use Rattle.co_system.specs.Systems.{IsAsked, MayLead};
 ghost use Rattle.k42_runtime.specs.Swaps.{HasEnded, MayStart};
 ghost use Rattle.k42_runtime.specs.Systems.{IsPassHere, IsAtRest, IsAtWork};
 ghost use Rattle.k42_workers.specs.Lines.{AnswersLine, IsOpened, IsMade, Follows};
 ghost use Rattle.k42_workers.specs.Passes.{standing_of, IsBetween, HasFew, GoesOnAs, GoesOnBy, StaysAs, HasOnlyEntered, MayAnswer, MayFollow};
 
 use crate::gate::Gate;
+use co_system::{NoCall, NoSwap, Pass, Swapped, System};
 use k42_kinds::{Act, Op, To};
 use k42_memory::Memory;
-use k42_runtime::{NoCall, NoSwap, Pass, Swapped, System};
 use script_text::{CallLine, Item};
 use std::alloc::Global;
 use std::sync::Wait;
@@ -125,6 +125,7 @@ fn swap_to<R: Wait>(
 ) -> Result<Swapped, NoSwap>
     requires here { IsPassHere system.now pass.old }
     requires may { MayStart (length system.now.plan.objects) object pass.old }
+    requires leads { MayLead system.now.plan object to }
     ensures { HasEnded system.now object to result pass.old pass.new }
 {
     match to {
@@ -149,6 +150,7 @@ fn swap<R: Wait>(
     requires few { HasFew pass.old.view }
     requires act { line.now.act ≡ acts.Swap to }
     requires there { line.now.object < length system.now.plan.objects }
+    requires leads { MayLead system.now.plan line.now.object to }
     ensures here { IsPassHere system.now pass.new }
     ensures rests { IsAtRest pass.new.view }
     ensures caller { GoesOnAs pass.old.view pass.new.view }

@@ -4,9 +4,9 @@ ghost use Rattle.std.specs.List.{list_any};
 ghost use Rattle.script_text.specs.Sound.{IsSound};
 ghost use Rattle.k42_workers.specs.Plans as due;
 
+use co_system::{Keep, Plan, SystemLayout, kept_as};
 use k42_kinds::{KindName, LayoutName};
 use k42_memory::Memory;
-use k42_runtime::{Keep, ObjectPlan, Plan};
 use script_text::{Item, ObjectLine, Script, WorkerLines};
 use std::alloc::Global;
 
@@ -24,17 +24,14 @@ fn asks(items: &[Item]) -> bool
 }
 
 /// The objects of a script, as they start.
-fn object_plans(alloc: Global, objects: &[ObjectLine]) -> Result<Vec<ObjectPlan>, Memory>
-    ensures { IfOk result (λ made. made.items ≡ map due.object_plan objects.now) }
+fn layouts(alloc: Global, objects: &[ObjectLine]) -> Result<Vec<SystemLayout>, Memory>
+    ensures { IfOk result (λ made. made.items ≡ map due.layout_of objects.now) }
 {
-    let mut plans = Vec::new(alloc);
+    let mut layouts = Vec::new(alloc);
     for object in objects {
-        plans.push(ObjectPlan {
-            kind: object.kind,
-            layout: object.layout,
-        })?;
+        layouts.push(kept_as(object.kind, object.layout))?;
     }
-    Ok(plans)
+    Ok(layouts)
 }
 
 /// Each worker's processor.
@@ -54,7 +51,7 @@ pub(crate) fn plan_of(alloc: Global, script: &Script) -> Result<Plan, Memory>
     requires asked { list_any due.asks script.now.workers ≡ true }
     ensures { IfOk result (λ plan. plan ≡ due.plan_of script.now) }
 {
-    let objects = object_plans(alloc, script.objects.as_slice())?;
+    let objects = layouts(alloc, script.objects.as_slice())?;
     let callers = processors(alloc, script.workers.as_slice())?;
     match Plan::new(script.procs, objects, callers, Keep::All) {
         Ok(plan) => Ok(plan),
@@ -67,10 +64,7 @@ pub(crate) fn idle_plan(alloc: Global) -> Result<Plan, Memory>
     ensures { IfOk result (λ plan. plan ≡ due.idle_plan) }
 {
     let mut objects = Vec::new(alloc);
-    objects.push(ObjectPlan {
-        kind: KindName::Counter,
-        layout: LayoutName::Shared,
-    })?;
+    objects.push(kept_as(KindName::Counter, LayoutName::Shared))?;
     let mut callers = Vec::new(alloc);
     callers.push(0)?;
     match Plan::new(1, objects, callers, Keep::All) {

@@ -12,8 +12,8 @@ ghost use Rattle.k42_workers.specs.Plans as due;
 ghost use Rattle.k42_workers.specs.Workers.{IsRunOf};
 
 use crate::plans::{has_lines, idle_plan, plan_of};
+use co_system::{History, Pass, System};
 use k42_memory::Memory;
-use k42_runtime::{History, Pass, System};
 use script_text::Script;
 use std::alloc::Global;
 

@@ -6,8 +6,8 @@ ghost use Rattle.k42_workers.specs.Passes.{IsReady, IsFresh, HasWorked, HaveWork
 
 use crate::gate::Gate;
 use crate::lines::{follow, leave_open};
+use co_system::{Pass, System};
 use k42_memory::Memory;
-use k42_runtime::{Pass, System};
 use script_text::WorkerLines;
 use std::alloc::Global;
 use std::sync::Wait;

@@ -7,6 +7,8 @@ use Rattle.k42_shapes.specs.Shapes.{cells_of, cell_called, shape_at, is_dead_tag
 use Rattle.k42_shapes.proofs.ShapeLaws.{cell_within, some_cells}
 use Rattle.k42_kinds.specs.declared.operation.Op.{Op}
 use Rattle.k42_kinds.specs.declared.operation.Reply.{Reply}
+use Rattle.k42_kinds.specs.declared.entry.To.{To}
+use Rattle.k42_kinds.specs.declared.entry.To.TheVariants as tos
 use Rattle.k42_kinds.specs.declared.entry.Reach.{Reach}
 use Rattle.k42_kinds.specs.declared.entry.Reach.TheVariants.{One, All}
 use Rattle.k42_kinds.specs.Objects.{counter_object, counter_after, counter_reply}
@@ -23,6 +25,11 @@ twos_and_fours = shapes.Groups 2 ∷ shapes.Groups 4 ∷ []
 abbrev pub width_tag : Groups → ℕ
 width_tag Two = 0
 width_tag Four = 1
+
+-- the number of each is its tag
+abbrev pub LeadsGroups : To → Type 0
+LeadsGroups (tos.Layout number) = number < 2
+LeadsGroups to = ⊥
 
 -- what a spread counter does, with the cells of the shape for the processors
 abbrev pub grouped : Shape → Ways ℕ ℕ Op Reply

@@ -4,14 +4,13 @@ ghost use Rattle.std.proofs.Common.{arith};
 ghost use Rattle.k42_shapes.specs.Shapes.{shape_at};
 ghost use Rattle.k42_kinds.specs.declared.entry.Act.TheVariants.{Swap};
 ghost use Rattle.k42_kinds.specs.declared.entry.To.TheVariants.{Layout as Kept};
-ghost use Rattle.k42_kinds.specs.declared.operation.LayoutName.TheVariants.{Spread};
 ghost use Rattle.k42_kinds.specs.Objects.{counter_object};
 ghost use Rattle.co_counter.specs.Counters.{IsValue};
-ghost use Rattle.kind_tests.specs.Groups.{twos_and_fours, width_tag, grouped, HasGroups, grouped_steps, grouped_steps_all, grouped_reaches};
+ghost use Rattle.kind_tests.specs.Groups.{twos_and_fours, width_tag, grouped, LeadsGroups, HasGroups, grouped_steps, grouped_steps_all, grouped_reaches};
 ghost use Rattle.kind_tests.specs.Groups.{grouped_stands, grouped_begins, grouped_imports, grouped_agree, never_dead};
 
 use co_counter::SpreadCounter;
-use k42_kinds::{Act, Kind, Layout, LayoutName, Op, Reach, Reply, To, step_counter};
+use k42_kinds::{Act, Kind, KindName, Layout, Op, Reach, Reply, To, belongs_to, step_counter};
 use k42_memory::Memory;
 use k42_shapes::Shape;
 use std::alloc::Global;
@@ -33,6 +32,10 @@ impl Kind for Groups {
 
     fn empty(&self, _alloc: Global) -> u64 {
         0
+    }
+
+    fn takes(&self, op: &Op) -> bool {
+        belongs_to(op, KindName::Counter)
     }
 
     fn step(&self, _alloc: Global, state: &mut u64, op: &Op) -> Result<Reply, Memory> {
@@ -57,7 +60,9 @@ impl Layout for Groups {
 
     ghost admitted = { λ _ state. state };
 
-    ghost act_of = { λ _. Swap (Kept Spread) };
+    ghost act_of = { λ groups. Swap (Kept (width_tag groups)) };
+
+    ghost leads = { λ _. LeadsGroups };
 
     fn tag(&self) -> u32 {
         match self {
@@ -79,6 +84,13 @@ impl Layout for Groups {
 
     fn with_tag(&self, tag: u32) -> Self {
         if tag == 0 { Groups::Two } else { Groups::Four }
+    }
+
+    fn target(&self, to: To, _present: u32) -> Self {
+        match to {
+            To::Layout(0) => Groups::Two,
+            _ => Groups::Four,
+        }
     }
 
     fn reach(&self, op: &Op, proc: u32, _procs: u32) -> Reach {
@@ -113,7 +125,7 @@ impl Layout for Groups {
     }
 
     fn act(&self) -> Act<Op> {
-        Act::Swap(To::Layout(LayoutName::Spread))
+        Act::Swap(To::Layout(self.tag() as u8))
     }
 
     ghost steps = { λ groups procs proc amounts op known there takes whole. grouped_steps (shape_at twos_and_fours (width_tag groups)) procs proc amounts op there takes whole };

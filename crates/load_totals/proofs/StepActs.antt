@@ -8,6 +8,7 @@ use Rattle.std.proofs.lemmas.List.Elements.{recursion_from_All, filter_passes}
 use Rattle.std.proofs.lemmas.Simd.{map-map}
 use Rattle.k42_limits.specs.declared.TheConstants.{PAGES}
 use Rattle.k42_kinds.specs.Histories.{entries_of}
+use Rattle.k42_kinds.specs.Operations.{layout_number}
 use Rattle.k42_kinds.specs.declared.operation.Op.{Op}
 use Rattle.k42_kinds.specs.declared.operation.Reply.{Reply}
 use Rattle.k42_kinds.specs.declared.entry.Act.{Act}
@@ -29,7 +30,7 @@ name_of number = codes "n" ++ decimal number
 -- what step k asks with this value, by whether it swaps, adds or binds
 abbrev pub asked : Bool → Bool → Bool → ℕ → ℕ → Act Op
 asked swaps adds binds k value =
-    if swaps then Swap (Layout (layout_at k))
+    if swaps then Swap (Layout (layout_number (layout_at k)))
     else if adds then Call (Add value)
     else if binds then Call (Bind (name_of (value % 100)) k)
     else Call (Write (value % PAGES) (codes "v" ++ decimal k))

@@ -19,7 +19,7 @@ use Rattle.k42_kinds.specs.declared.entry.To.TheVariants.{Layout}
 use Rattle.k42_kinds.specs.declared.entry.Entry.{Entry}
 use Rattle.k42_kinds.specs.declared.operation.KindName.{KindName}
 use Rattle.k42_kinds.specs.declared.operation.KindName.TheVariants.{Counter, Directory, Pages}
-use Rattle.k42_kinds.specs.declared.operation.LayoutName.{LayoutName}
+use Rattle.k42_kinds.specs.Operations.{layout_number}
 use Rattle.k42_kinds.specs.declared.operation.Op.{Op}
 use Rattle.k42_kinds.specs.declared.operation.Op.TheVariants.{Add, Bind, Write}
 use Rattle.k42_kinds.specs.declared.states.AnyState.{AnyState}
@@ -36,10 +36,10 @@ pub data Asks (worker : ℕ) (act : Act Op) : Type 0 where
   Adds : (amount : ℕ) → act ≡ Call (Add amount) → Asks worker act
   Binds : (name number : ℕ) → name < 100 → act ≡ Call (Bind (name_of name) number) → Asks worker act
   Writes : (page : ℕ) (text : List ℕ) → page < PAGES → act ≡ Call (Write page text) → Asks worker act
-  Swaps : (layout : LayoutName) → worker ≡ 0 → act ≡ Swap (Layout layout) → Asks worker act
+  Swaps : (number : ℕ) → worker ≡ 0 → act ≡ Swap (Layout number) → Asks worker act
 
 asks_by_turn : (worker k value : ℕ) (swaps adds binds : Bool) → (swaps ≡ true → worker ≡ 0) → Asks worker (asked swaps adds binds k value)
-asks_by_turn worker k value true adds binds first = Swaps (layout_at k) (first refl) refl
+asks_by_turn worker k value true adds binds first = Swaps (layout_number (layout_at k)) (first refl) refl
 asks_by_turn worker k value false true binds first = Adds value refl
 asks_by_turn worker k value false false true first = Binds (value % 100) k (omega arith) refl
 asks_by_turn worker k value false false false first = Writes (value % PAGES) (codes "v" ++ decimal k) (omega arith) refl
@@ -90,7 +90,7 @@ alive_moved : (kind : KindName) (state : WatchState AnyState) (worker : ℕ) (ac
 alive_moved kind state worker act answer (Adds amount is) alive = rw is (alive_after state.inner (Add amount) alive)
 alive_moved kind state worker act answer (Binds name number less is) alive = rw is (alive_after state.inner (Bind (name_of name) number) alive)
 alive_moved kind state worker act answer (Writes page text less is) alive = rw is (alive_after state.inner (Write page text) alive)
-alive_moved kind state worker act answer (Swaps layout first is) alive = rw is (cond_both (is_carried_out answer) ((watched_object kind).swapped state (Layout layout)) state (λ moved. is_dead moved.inner ≡ false) (λ done. alive) (λ other. alive))
+alive_moved kind state worker act answer (Swaps number first is) alive = rw is (cond_both (is_carried_out answer) ((watched_object kind).swapped state (Layout number)) state (λ moved. is_dead moved.inner ≡ false) (λ done. alive) (λ other. alive))
 
 alive_in : (kind : KindName) (object : ℕ) (state : WatchState AnyState) (entries : List (Entry Op Reply)) → AllByRecursion (λ (entry : Entry Op Reply). Asks entry.caller entry.act) entries → is_dead state.inner ≡ false → is_dead (fold (moved_by kind object) state entries).inner ≡ false
 alive_in kind object state [] asks alive = alive
@@ -111,7 +111,7 @@ no_rival_by : (kind : KindName) (before : List (Entry Op Reply)) (entry : Entry 
 no_rival_by kind before entry after legal (Adds amount is) = let call = rw is at legal in inr (λ number settles. subst (Settles number) call.replied settles)
 no_rival_by kind before entry after legal (Binds name bound less is) = let call = rw is at legal in inr (λ number settles. subst (Settles number) call.replied settles)
 no_rival_by kind before entry after legal (Writes page text less is) = let call = rw is at legal in inr (λ number settles. subst (Settles number) call.replied settles)
-no_rival_by kind before entry after legal (Swaps layout first is) = inl first
+no_rival_by kind before entry after legal (Swaps number first is) = inl first
 
 -- the answer to a swap, where its object is alive and has incarnations left, and no other's swap is in its way
 carried_out : (kind : KindName) (before : List (Entry Op Reply)) (entry : Entry Op Reply) (after : List (Entry Op Reply)) (answer : Answer Reply)
@@ -157,7 +157,7 @@ module _ (n : ℕ) (small : n ≤ 10000) (history : List (Entry Op Reply)) (lawf
   done_by before entry after split kind legal (Adds amount is) = rw is refl
   done_by before entry after split kind legal (Binds name number less is) = rw is refl
   done_by before entry after split kind legal (Writes page text less is) = rw is refl
-  done_by before entry after split kind legal (Swaps layout first is) =
+  done_by before entry after split kind legal (Swaps number first is) =
       rw is (carried_out kind before entry after entry.answer (subst (IsLegalAct kind before entry after) is legal)
       (All-at_split (λ (other : Entry Op Reply). IsNotGivenUp other.answer) history lawful.none_given_up before entry after split)
       (alive_in kind entry.object (watched_object kind).start before (front (λ (other : Entry Op Reply). Asks other.caller other.act) before (entry ∷ after) (asks_in before entry after split)) (starts_alive kind))

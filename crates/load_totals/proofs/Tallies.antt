@@ -99,7 +99,7 @@ hits_are : (worker hits sum : ℕ) (act : Act Op) → Asks worker act → hits �
 hits_are worker hits sum act (Adds amount is) so_far = rw is (omega (arith, so_far))
 hits_are worker hits sum act (Binds name number less is) so_far = rw is (omega (arith, so_far))
 hits_are worker hits sum act (Writes page text less is) so_far = rw is (omega (arith, so_far))
-hits_are worker hits sum act (Swaps layout first is) so_far = rw is (omega (arith, so_far))
+hits_are worker hits sum act (Swaps number first is) so_far = rw is (omega (arith, so_far))
 
 -- names of different numbers differ
 name_back : (i j : ℕ) → i < 100 → j < 100 → name_of i ≡ name_of j → i ≡ j
@@ -141,7 +141,7 @@ bound_are worker names act (Adds amount is) name less = rw is (or_false (is_boun
 bound_are worker names act (Binds other number small is) name less =
     rw is (bound_at names other number name (finite.get names (name_of other)) (eqb other name) refl refl small less ∙ ap (λ b. is_bound names name || b) (sym (name_test other name (eqb other name) refl small less)))
 bound_are worker names act (Writes page text small is) name less = rw is (or_false (is_bound names name))
-bound_are worker names act (Swaps layout first is) name less = rw is (or_false (is_bound names name))
+bound_are worker names act (Swaps number first is) name less = rw is (or_false (is_bound names name))
 
 abbrev pub count_bound : Directory → ℕ
 count_bound names = count_by (is_bound names) (range_with_len 0 100)
@@ -158,7 +158,7 @@ names_are worker names act (Binds other number small is) so_far =
     ∙ sym (grown (is_bound names) (is_bound (directory_after names (Bind (name_of other) number))) other 100 small
     (λ name less. bound_at names other number name (finite.get names (name_of other)) (eqb other name) refl refl small less)))
 names_are worker names act (Writes page text small is) so_far = rw is so_far
-names_are worker names act (Swaps layout first is) so_far = rw is so_far
+names_are worker names act (Swaps number first is) so_far = rw is so_far
 
 -- whether the page of this number is dirty
 abbrev pub is_marked : Pages → ℕ → Bool
@@ -175,7 +175,7 @@ marked_are : (worker : ℕ) (pages : Pages) (act : Act Op) → Asks worker act �
 marked_are worker pages act (Adds amount is) page = rw is (or_false (is_marked pages page))
 marked_are worker pages act (Binds name number small is) page = rw is (or_false (is_marked pages page))
 marked_are worker pages act (Writes other text small is) page = rw is (marked_at pages other page text (eqb other page) refl)
-marked_are worker pages act (Swaps layout first is) page = rw is (or_false (is_marked pages page))
+marked_are worker pages act (Swaps number first is) page = rw is (or_false (is_marked pages page))
 
 -- how many of the pages are dirty; their number is a variable, so that no list of them is computed
 abbrev pub count_marked : ℕ → Pages → ℕ
@@ -188,7 +188,7 @@ cache_is worker all are pages act (Writes other text small is) so_far =
     rw is (dirty_write pages other text
     ∙ ap (λ many. if is_marked pages other then many else many + 1) so_far
     ∙ sym (grown (is_marked pages) (is_marked (pages_after pages (Write other text))) other all (omega (arith, small, are)) (λ page less. marked_at pages other page text (eqb other page) refl)))
-cache_is worker all are pages act (Swaps layout first is) so_far = rw is so_far
+cache_is worker all are pages act (Swaps number first is) so_far = rw is so_far
 
 -- what is known of the tally of these entries
 pub record IsTallyOf (all : ℕ) (tally : Tally) (entries : List (Entry Op Reply)) : Type 0 where

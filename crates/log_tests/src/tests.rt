@@ -4,7 +4,7 @@ ghost use Rattle.k42_log.specs.Names.{is_reply};
 ghost use Rattle.k42_log.specs.Logs.{next_index};
 
 use crate::badge::{BadgeOp, BadgeReply};
-use k42_kinds::{Act, Answer, Entry, LayoutName, Name, Op, Packed, PackedReply, Reply, Text, To};
+use k42_kinds::{Act, Answer, Entry, Name, Op, Packed, PackedReply, Reply, Text, To};
 use k42_log::Log;
 use k42_memory::Memory;
 use std::alloc::Global;
@@ -161,40 +161,26 @@ fn push_swap(
 fn a_swap_of_every_kind_is_read_back(rt: HostRuntime) -> Result<(), Fail> {
     let mut log = Log::new(rt.alloc(), 15, 7, 40);
     assert_eq!(rt; (log.last_stamp(), log.last_incarnation()), (0, 0));
-    push_swap(
-        &mut log,
-        40,
-        To::Layout(LayoutName::Shared),
-        Answer::Swapped(u32::MAX),
-    )?;
-    push_swap(
-        &mut log,
-        41,
-        To::Layout(LayoutName::Spread),
-        Answer::Busy(2),
-    )?;
+    push_swap(&mut log, 40, To::Layout(14), Answer::Swapped(u32::MAX))?;
+    push_swap(&mut log, 41, To::Layout(255), Answer::Busy(2))?;
     push_swap(&mut log, 42, To::Watch, Answer::Abandoned(3))?;
     push_swap(&mut log, 43, To::Unwatch, Answer::Spent)?;
     push_swap(&mut log, 44, To::Dead, Answer::Gone)?;
-    assert_eq!(rt; (log.last_stamp(), log.last_incarnation()), (89, 1_048_575));
+    push_swap(&mut log, 45, To::Layout(0), Answer::Gone)?;
+    assert_eq!(rt; (log.last_stamp(), log.last_incarnation()), (91, 1_048_575));
     let due = [
         entry_of(
             81,
             40,
             None,
-            &Act::Swap(To::Layout(LayoutName::Shared)),
+            &Act::Swap(To::Layout(14)),
             &Answer::Swapped(u32::MAX),
         ),
-        entry_of(
-            83,
-            41,
-            None,
-            &Act::Swap(To::Layout(LayoutName::Spread)),
-            &Answer::Busy(2),
-        ),
+        entry_of(83, 41, None, &Act::Swap(To::Layout(255)), &Answer::Busy(2)),
         entry_of(85, 42, None, &Act::Swap(To::Watch), &Answer::Abandoned(3)),
         entry_of(87, 43, None, &Act::Swap(To::Unwatch), &Answer::Spent),
         entry_of(89, 44, None, &Act::Swap(To::Dead), &Answer::Gone),
+        entry_of(91, 45, None, &Act::Swap(To::Layout(0)), &Answer::Gone),
     ];
     let list = log.unread().collect(rt.alloc())?;
     assert_eq!(rt; list.as_slice(), due.as_slice());

@@ -50,7 +50,7 @@ fn meet(
 fn is_given_up(entry: &Entry<Op, Reply>) -> bool {
     entry.object == 0
         && entry.incarnation == 0
-        && entry.act == Act::Swap(To::Layout(LayoutName::Spread))
+        && entry.act == Act::Swap(To::Layout(1))
         && entry.answer == Answer::Abandoned(1)
 }
 

@@ -40,7 +40,7 @@ pub record NeverFalls (s t : Phases) : Type 0 where
   pub incarnations : (o : ℕ) → (object_at s o).incarnation ≤ (object_at t o).incarnation
   pub freed : (o : ℕ) → (object_at s o).freed ≤ (object_at t o).freed
 
--- the layouts of each object stay
+-- the shapes of the live layouts of each object stay
 abbrev pub KeepsShapes : Phases → Phases → Type 0
 KeepsShapes s t = (o : ℕ) → (object_at t o).shapes ≡ (object_at s o).shapes
 

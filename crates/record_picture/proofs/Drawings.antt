@@ -5,7 +5,6 @@ use Rattle.k42_kinds.specs.declared.operation.Op.{Op}
 use Rattle.k42_kinds.specs.declared.operation.Op.TheVariants.{Get}
 use Rattle.k42_kinds.specs.declared.operation.Reply.{Reply}
 use Rattle.k42_kinds.specs.declared.operation.Reply.TheVariants.{Number}
-use Rattle.k42_kinds.specs.declared.operation.LayoutName.TheVariants.{Spread}
 use Rattle.k42_kinds.specs.declared.entry.Act.{Act}
 use Rattle.k42_kinds.specs.declared.entry.Act.TheVariants.{Call, Swap}
 use Rattle.k42_kinds.specs.declared.entry.To.TheVariants.{Layout}
@@ -57,7 +56,7 @@ swapping answer = record {
   worker = 0;
   line = 4;
   object = 0;
-  act = Swap (Layout Spread);
+  act = Swap (Layout 1);
   answer = answer;
   incarnation = 0;
   extra = None;

@@ -7,7 +7,7 @@ use Rattle.k42_kinds.specs.declared.entry.Act.TheVariants.{Call, Swap}
 use Rattle.k42_kinds.specs.declared.entry.To.TheVariants.{Layout, Dead, Watch, Unwatch}
 use Rattle.k42_kinds.specs.declared.entry.Answer.{Answer}
 use Rattle.k42_kinds.specs.declared.entry.Answer.TheVariants.{Swapped}
-use Rattle.script_text.specs.Acts.{layout_word}
+use Rattle.script_text.specs.Acts.{numbered_layout_word}
 use Rattle.script_text.specs.declared.script.Script.{Script}
 use Rattle.record_text.specs.declared.record.RecordLine.{RecordLine}
 use Rattle.record_text.specs.Texts.{object_name}
@@ -17,7 +17,7 @@ use Rattle.record_picture.specs.Pieces.{numbered, worded, placed_texts}
 -- the word of what a swap was to; a watch and an unwatch keep the layout, and have their own
 abbrev pub label_of : Act Op → List ℕ
 label_of (Call op) = []
-label_of (Swap (Layout layout)) = layout_word layout
+label_of (Swap (Layout number)) = numbered_layout_word number
 label_of (Swap Dead) = codes "dead"
 label_of (Swap Watch) = codes "watch"
 label_of (Swap Unwatch) = codes "unwatch"

@@ -1,6 +1,7 @@
 //! The lines through all lanes at swaps that were carried out.
 ghost use Rattle.std.specs.Prelude.{◌≡◌, ◌≤◌, ◌<◌, ◌++◌, length, All, OnOk};
 ghost use Rattle.k42_limits.specs.declared.TheConstants.{CALLERS};
+ghost use Rattle.script_text.specs.Acts.{numbered_layout_word};
 ghost use Rattle.record_text.specs.Spelling.{HasSpelling};
 ghost use Rattle.record_text.specs.Texts as spelling;
 ghost use Rattle.record_picture.specs.Swaps as drawn;
@@ -8,7 +9,7 @@ ghost use Rattle.record_picture.specs.declared.window.TheConstants.{COLUMNS};
 
 use crate::measures::{column_left, lane_top};
 use crate::pieces::{put_fixed, put_numbered, put_worded};
-use k42_kinds::{Act, Answer, LayoutName, Op, To};
+use k42_kinds::{Act, Answer, Op, To};
 use k42_memory::Memory;
 use record_text::RecordLine;
 use script_text::Script;
@@ -20,13 +21,19 @@ pub fn object_name(script: &Script, object: u32) -> &[u8]
     script.objects.as_slice()[object as usize].name.bytes()
 }
 
+/// The word of the layout of this number.
+fn layout_word(number: u8) -> &'static [u8]
+    ensures { result.now ≡ numbered_layout_word number }
+{
+    if number == 0 { b"shared" } else { b"spread" }
+}
+
 fn label_of(act: &Act<Op>) -> &'static [u8]
     ensures { result.now ≡ drawn.label_of act.now }
 {
     match act {
         Act::Call(_) => b"",
-        Act::Swap(To::Layout(LayoutName::Shared)) => b"shared",
-        Act::Swap(To::Layout(LayoutName::Spread)) => b"spread",
+        Act::Swap(To::Layout(number)) => layout_word(*number),
         Act::Swap(To::Dead) => b"dead",
         Act::Swap(To::Watch) => b"watch",
         Act::Swap(To::Unwatch) => b"unwatch",

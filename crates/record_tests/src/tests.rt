@@ -149,7 +149,7 @@ fn add(amount: u32) -> Act<Op> {
 }
 
 fn swap(layout: LayoutName) -> Act<Op> {
-    Act::Swap(To::Layout(layout))
+    Act::Swap(To::Layout(layout.number()))
 }
 
 /// The reply to a call in an activity of the first generation.

@@ -2,7 +2,7 @@
 use Rattle.std.proofs.Common.{◌≡◌, ℕ, zero, suc, ◌<◌, Bool, false, List, [], ◌∷◌, ◌++◌, map, inl, inr, refl, ap, subst, arith}
 use Rattle.std.specs.Prelude.{Option, Some, None, is_some, codes}
 use Rattle.k42_kinds.specs.declared.operation.KindName.TheVariants.{Counter}
-use Rattle.k42_kinds.specs.declared.operation.LayoutName.TheVariants.{Shared, Spread}
+use Rattle.k42_kinds.specs.declared.operation.LayoutName.TheVariants.{Shared}
 use Rattle.k42_kinds.specs.declared.operation.Op.{Op}
 use Rattle.k42_kinds.specs.declared.operation.Op.TheVariants.{Add, Get, Seen}
 use Rattle.k42_kinds.specs.declared.operation.Reply.{Reply}
@@ -41,8 +41,8 @@ counting = record {
   objects = record { name = codes "hits"; kind = Counter; layout = Shared } ∷ [];
   workers =
       worker (codes "a") 0 (Begin ∷ asks 5 (Call (Add 1)) ∷ asks 6 (Call Get) ∷ End ∷ [])
-      ∷ worker (codes "b") 1 (asks 9 (Swap (Layout Spread)) ∷ [])
-      ∷ worker (codes "c") 1 (asks 11 (Swap (Layout Spread)) ∷ [])
+      ∷ worker (codes "b") 1 (asks 9 (Swap (Layout 1)) ∷ [])
+      ∷ worker (codes "c") 1 (asks 11 (Swap (Layout 1)) ∷ [])
       ∷ [];
 }
 
@@ -119,17 +119,17 @@ wrong_reply kept = illegal (added ∷ []) (record read { answer = Replied (Numbe
 call_elsewhere : Breaks (added ∷ []) (record read { incarnation = 1 }) [] Calls
 call_elsewhere kept = illegal (added ∷ []) (record read { incarnation = 1 }) [] refl (λ legal. grind (arith, legal.incarnation)) (kept refl)
 
-skipped_number : Breaks [] (tells 1 1 9 0 (Swap (Layout Spread)) (Swapped 2)) [] Swaps
-skipped_number kept = illegal [] (tells 1 1 9 0 (Swap (Layout Spread)) (Swapped 2)) [] refl (λ legal. grind (arith, legal.next)) (kept refl)
+skipped_number : Breaks [] (tells 1 1 9 0 (Swap (Layout 1)) (Swapped 2)) [] Swaps
+skipped_number kept = illegal [] (tells 1 1 9 0 (Swap (Layout 1)) (Swapped 2)) [] refl (λ legal. grind (arith, legal.next)) (kept refl)
 
-swapped_elsewhere : Breaks [] (tells 1 1 9 1 (Swap (Layout Spread)) (Swapped 1)) [] Swaps
-swapped_elsewhere kept = illegal [] (tells 1 1 9 1 (Swap (Layout Spread)) (Swapped 1)) [] refl (λ legal. grind (arith, legal.incarnation)) (kept refl)
+swapped_elsewhere : Breaks [] (tells 1 1 9 1 (Swap (Layout 1)) (Swapped 1)) [] Swaps
+swapped_elsewhere kept = illegal [] (tells 1 1 9 1 (Swap (Layout 1)) (Swapped 1)) [] refl (λ legal. grind (arith, legal.incarnation)) (kept refl)
 
-swap_answered_as_call : Breaks [] (tells 1 1 9 0 (Swap (Layout Spread)) (Replied Done)) [] Swaps
-swap_answered_as_call kept = illegal [] (tells 1 1 9 0 (Swap (Layout Spread)) (Replied Done)) [] refl (λ legal. legal) (kept refl)
+swap_answered_as_call : Breaks [] (tells 1 1 9 0 (Swap (Layout 1)) (Replied Done)) [] Swaps
+swap_answered_as_call kept = illegal [] (tells 1 1 9 0 (Swap (Layout 1)) (Replied Done)) [] refl (λ legal. legal) (kept refl)
 
-busy_for_nobody : Breaks [] (tells 1 1 9 0 (Swap (Layout Spread)) (Busy 1)) [] Refusals
-busy_for_nobody kept = illegal [] (tells 1 1 9 0 (Swap (Layout Spread)) (Busy 1)) [] refl (λ legal. none-Any (IsRival (told (tells 1 1 9 0 (Swap (Layout Spread)) (Busy 1))) 1) [] tt legal.rival) (kept refl)
+busy_for_nobody : Breaks [] (tells 1 1 9 0 (Swap (Layout 1)) (Busy 1)) [] Refusals
+busy_for_nobody kept = illegal [] (tells 1 1 9 0 (Swap (Layout 1)) (Busy 1)) [] refl (λ legal. none-Any (IsRival (told (tells 1 1 9 0 (Swap (Layout 1)) (Busy 1))) 1) [] tt legal.rival) (kept refl)
 
 -- ---- the layer round an object
 
@@ -147,8 +147,8 @@ count_too_high kept = illegal watched (tells 3 0 7 1 (Call Seen) (Replied (Numbe
 count_too_low : Breaks watched (tells 3 0 7 1 (Call Seen) (Replied (Number 0))) [] Calls
 count_too_low kept = illegal watched (tells 3 0 7 1 (Call Seen) (Replied (Number 0))) [] refl (λ legal. grind (arith, legal.replied)) (kept refl)
 
-count_lost_at_a_swap : Breaks (and_then (Layout Spread)) (tells 4 0 8 2 (Call Seen) (Replied (Number 0))) [] Calls
-count_lost_at_a_swap kept = illegal (and_then (Layout Spread)) (tells 4 0 8 2 (Call Seen) (Replied (Number 0))) [] refl (λ legal. grind (arith, legal.replied)) (kept refl)
+count_lost_at_a_swap : Breaks (and_then (Layout 1)) (tells 4 0 8 2 (Call Seen) (Replied (Number 0))) [] Calls
+count_lost_at_a_swap kept = illegal (and_then (Layout 1)) (tells 4 0 8 2 (Call Seen) (Replied (Number 0))) [] refl (λ legal. grind (arith, legal.replied)) (kept refl)
 
 count_kept_at_a_watch : Breaks (and_then Watch) (tells 4 0 8 2 (Call Seen) (Replied (Number 1))) [] Calls
 count_kept_at_a_watch kept = illegal (and_then Watch) (tells 4 0 8 2 (Call Seen) (Replied (Number 1))) [] refl (λ legal. grind (arith, legal.replied)) (kept refl)
@@ -169,10 +169,10 @@ watch_of_the_dead kept = illegal (and_then Dead) (tells 4 0 8 2 (Swap Watch) (Sw
 
 -- two refusals do not justify each other
 abbrev one_refusal : RecordLine
-one_refusal = tells 1 1 9 0 (Swap (Layout Spread)) (Busy 1)
+one_refusal = tells 1 1 9 0 (Swap (Layout 1)) (Busy 1)
 
 abbrev other_refusal : RecordLine
-other_refusal = tells 2 2 11 0 (Swap (Layout Spread)) (Busy 1)
+other_refusal = tells 2 2 11 0 (Swap (Layout 1)) (Busy 1)
 
 busy_for_each_other : Breaks [] one_refusal (other_refusal ∷ []) Refusals
 busy_for_each_other kept =
@@ -236,10 +236,10 @@ later_rule (inl fault) =
     ]
 
 -- where no line is missing the end breaks no rule, and where one is it breaks no other rule
-end_of_all : IsFaultOfEnd counting (added ∷ read ∷ tells 3 1 9 0 (Swap (Layout Spread)) (Swapped 1) ∷ tells 4 2 11 1 (Swap (Layout Spread)) (Swapped 2) ∷ []) 6 8 → ⊥
+end_of_all : IsFaultOfEnd counting (added ∷ read ∷ tells 3 1 9 0 (Swap (Layout 1)) (Swapped 1) ∷ tells 4 2 11 1 (Swap (Layout 1)) (Swapped 2) ∷ []) 6 8 → ⊥
 end_of_all fault = fault.missing all
   where
-    all : HasAllLines counting (added ∷ read ∷ tells 3 1 9 0 (Swap (Layout Spread)) (Swapped 1) ∷ tells 4 2 11 1 (Swap (Layout Spread)) (Swapped 2) ∷ [])
+    all : HasAllLines counting (added ∷ read ∷ tells 3 1 9 0 (Swap (Layout 1)) (Swapped 1) ∷ tells 4 2 11 1 (Swap (Layout 1)) (Swapped 2) ∷ [])
     all zero = omega arith
     all (suc zero) = omega arith
     all (suc (suc zero)) = omega arith

@@ -5,7 +5,10 @@ use Rattle.std.proofs.lemmas.Option.{same_Some}
 use Rattle.k42_crews.specs.Ready.{IsFree, AreFree}
 use Rattle.k42_kinds.specs.declared.entry.To.{To}
 use Rattle.k42_places.specs.Places.{EachPlace}
-use Rattle.k42_runtime.specs.Systems.{SystemSeen, IsPassHere, IsAtRest, SystemPass}
+use Rattle.co_any.specs.Layouts.{LeadsAny}
+use Rattle.co_system.specs.Systems.{MayLead, PlanSeen, SystemSeen, SystemPass}
+use Rattle.k42_watch.specs.WatchedRows.{LeadsWatched}
+use Rattle.k42_runtime.specs.Systems.{IsPassHere, IsAtRest}
 use Rattle.k42_runtime.specs.declared.swaps.NoSwap.{NoSwap}
 use Rattle.k42_runtime.specs.declared.swaps.Swapped.{Swapped}
 use Rattle.swap_future.specs.Rolling.{HasRolled, MayRoll, seen}
@@ -19,6 +22,10 @@ may_roll system (first ∷ passes) free (suc i) pass at = may_roll system passes
 
 pub each_within : (plan : List (ℕ × To)) (few objects : ℕ) → few ≤ objects → EachPlace (λ i asked. asked.0 < few) plan → EachPlace (λ i asked. asked.0 < objects) plan
 each_within plan few objects more each i asked at = let less = each i asked at in omega (arith, less, more)
+
+pub each_leads : (seen : PlanSeen) (plan : List (ℕ × To)) → EachPlace (λ i asked. LeadsWatched LeadsAny asked.1) plan
+    → EachPlace (λ i asked. MayLead seen asked.0 asked.1) plan
+each_leads seen plan each i asked at = λ declaration is. each i asked at
 
 pub all_free : (system : SystemSeen) (passes : List SystemPass) → EachPlace (λ i pass. IsPassHere system pass × IsAtRest pass.view) passes → AreFree system passes
 all_free system [] each = tt

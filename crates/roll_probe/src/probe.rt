@@ -1,15 +1,17 @@
 //! A plan that is carried out, or comes to want of memory.
 ghost use Rattle.std.specs.Prelude.{◌≡◌, ◌<◌, ◌≤◌, length, IfErr, IfOk, IfSome, IsSomeAnd};
 ghost use Rattle.k42_board.specs.declared.keep.Keep.TheVariants.{All};
+ghost use Rattle.co_any.specs.Layouts.{LeadsAny};
 ghost use Rattle.k42_crews.specs.Ready.{AreFree};
 ghost use Rattle.k42_places.specs.Places.{EachPlace};
+ghost use Rattle.k42_watch.specs.WatchedRows.{LeadsWatched};
 ghost use Rattle.swap_future.specs.Rolling.{IsRolling, seen};
 
+use co_system::{History, Keep, NoSwap, Pass, Plan, Swapped, System, kept_as};
 use futures::executor::block_on;
 use k42_crews::{close, start};
 use k42_kinds::{Answer, Entry, KindName, LayoutName, Op, Reply, To};
 use k42_memory::Memory;
-use k42_runtime::{History, Keep, NoSwap, ObjectPlan, Pass, Plan, Swapped, System};
 use std::alloc::{AllocGlobal, Global};
 use std::io;
 use std::random::RandomSource;
@@ -32,10 +34,7 @@ fn counters(alloc: Global) -> Result<Option<(System, Vec<Pass>)>, Memory>
 {
     let mut objects = Vec::new(alloc);
     for _ in 0..3 {
-        objects.push(ObjectPlan {
-            kind: KindName::Counter,
-            layout: LayoutName::Shared,
-        })?;
+        objects.push(kept_as(KindName::Counter, LayoutName::Shared))?;
     }
     let homes = vec![in alloc; 0, 0]?;
     match Plan::new(1, objects, homes, Keep::All) {
@@ -46,10 +45,11 @@ fn counters(alloc: Global) -> Result<Option<(System, Vec<Pass>)>, Memory>
 
 /// Four swaps of the three counters, of which one dies.
 fn plan_of(alloc: Global) -> Result<Vec<(u32, To)>, Memory>
-    ensures { IfOk result (λ plan. EachPlace (λ i asked. asked.0 < 3) plan.items) }
+    ensures within { IfOk result (λ plan. EachPlace (λ i asked. asked.0 < 3) plan.items) }
+    ensures leads { IfOk result (λ plan. EachPlace (λ i asked. LeadsWatched LeadsAny asked.1) plan.items) }
 {
-    let spread = To::Layout(LayoutName::Spread);
-    let shared = To::Layout(LayoutName::Shared);
+    let spread = To::Layout(1);
+    let shared = To::Layout(0);
     let plan = vec![in alloc; (0, spread), (1, spread), (2, To::Dead), (0, shared)]?;
     Ok(plan)
 }
@@ -116,6 +116,7 @@ fn begin<'a>(
     requires free { AreFree system.now passes.items }
     requires objects { 3 ≤ length system.now.plan.objects }
     requires within { EachPlace (λ i asked. asked.0 < 3) plan.items }
+    requires leads { EachPlace (λ i asked. LeadsWatched LeadsAny asked.1) plan.items }
     ensures system { IfOk result (λ roll. roll.system.now ≡ system.now) }
     ensures rolls { IfOk result (λ roll. IsSomeAnd roll.rolling (λ rolling. IsRolling system.now (seen rolling))) }
     ensures free { IfErr result (λ back. AreFree system.now back.passes.items) }

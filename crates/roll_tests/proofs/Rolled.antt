@@ -4,7 +4,10 @@ use Rattle.std.specs.Prelude.{slice_get, Option, Result, IsSomeAnd}
 use Rattle.std.proofs.lemmas.Option.{same_Some}
 use Rattle.k42_crews.specs.Ready.{IsFree, AreFree}
 use Rattle.k42_places.specs.Places.{EachPlace}
-use Rattle.k42_runtime.specs.Systems.{SystemSeen, IsPassHere, IsAtRest, SystemPass}
+use Rattle.co_any.specs.Layouts.{LeadsAny}
+use Rattle.co_system.specs.Systems.{MayLead, PlanSeen, SystemSeen, SystemPass}
+use Rattle.k42_watch.specs.WatchedRows.{LeadsWatched}
+use Rattle.k42_runtime.specs.Systems.{IsPassHere, IsAtRest}
 use Rattle.k42_kinds.specs.declared.entry.To.{To}
 use Rattle.k42_runtime.specs.declared.swaps.NoSwap.{NoSwap}
 use Rattle.k42_runtime.specs.declared.swaps.Swapped.{Swapped}
@@ -21,7 +24,13 @@ may_roll system (first ∷ passes) free (suc i) pass at = may_roll system passes
 pub within : (objects : ℕ) (plan : List (ℕ × To)) → AreWithin objects plan → EachPlace (λ i asked. asked.0 < objects) plan
 within objects [] are i asked at = absurd (cc)
 within objects (first ∷ plan) are zero asked at = subst (λ (a : ℕ × To). a.0 < objects) (same_Some first asked at) are.0
-within objects (first ∷ plan) are (suc i) asked at = within objects plan are.1 i asked at
+within objects (first ∷ plan) are (suc i) asked at = within objects plan are.2 i asked at
+
+pub all_lead : (seen : PlanSeen) (objects : ℕ) (plan : List (ℕ × To)) → AreWithin objects plan → EachPlace (λ i asked. MayLead seen asked.0 asked.1) plan
+all_lead seen objects [] are i asked at = absurd (cc)
+all_lead seen objects (first ∷ plan) are zero asked at = λ declaration is.
+    subst (λ (a : ℕ × To). LeadsWatched LeadsAny a.1) (same_Some first asked at) are.1
+all_lead seen objects (first ∷ plan) are (suc i) asked at = all_lead seen objects plan are.2 i asked at
 
 pub all_free : (system : SystemSeen) (passes : List SystemPass) → EachPlace (λ i pass. IsPassHere system pass × IsAtRest pass.view) passes → AreFree system passes
 all_free system [] each = tt

@@ -2,9 +2,9 @@ use crate::tests::beside::{CALLS, roll_beside_calls};
 use crate::tests::crews::{closed, counters_for, put_back, take_over};
 use crate::tests::rolls::{is_held_up, roll_of, roll_through, rolled};
 use crate::tests::steps::{come_in, go_home};
+use co_system::{Cause, NoSwap, Swapped, To};
 use k42_crews::last;
-use k42_kinds::{Act, LayoutName};
-use k42_runtime::{Cause, NoSwap, Swapped, To};
+use k42_kinds::Act;
 
 mod beside;
 mod crews;
@@ -28,8 +28,8 @@ fn are_answered(answers: &[Result<Swapped, NoSwap>], due: &[Swapped]) -> bool {
 fn a_plan_is_carried_out_by_two_passes(rt: HostRuntime) {
     let alloc = rt.alloc();
     let (system, passes) = counters_for(&rt, alloc, 1, 2, &[0, 0]);
-    let spread = To::Layout(LayoutName::Spread);
-    let shared = To::Layout(LayoutName::Shared);
+    let spread = To::Layout(1);
+    let shared = To::Layout(0);
     let plan = vec![in alloc; (0, spread), (1, spread), (0, shared)].expect(&rt, "memory");
     let end = roll_through(&rt, alloc, &system, passes, plan);
     let due = [Swapped::Done(1), Swapped::Done(1), Swapped::Done(2)];
@@ -44,7 +44,7 @@ fn two_passes_of_a_plan_meet_at_one_object(rt: HostRuntime) {
     let (system, mut passes) = counters_for(&rt, alloc, 1, 1, &[0, 0, 0]);
     let mut active = last(&system, &mut passes).expect(&rt, "a pass");
     come_in(&system, &mut active);
-    let spread = To::Layout(LayoutName::Spread);
+    let spread = To::Layout(1);
     let plan = vec![in alloc; (0, spread), (0, spread)].expect(&rt, "memory");
     let roll = roll_of(&rt, alloc, &system, passes, plan);
     let left = Some(Cause::Left { proc: 0, left: 1 });
@@ -62,7 +62,7 @@ fn two_passes_of_a_plan_meet_at_one_object(rt: HostRuntime) {
 fn a_plan_finds_an_object_gone_once_it_is_dead(rt: HostRuntime) {
     let alloc = rt.alloc();
     let (system, passes) = counters_for(&rt, alloc, 1, 1, &[0]);
-    let spread = To::Layout(LayoutName::Spread);
+    let spread = To::Layout(1);
     let plan = vec![in alloc; (0, To::Dead), (0, spread)].expect(&rt, "memory");
     let end = roll_through(&rt, alloc, &system, passes, plan);
     let due = [Swapped::Done(1), Swapped::Gone];
@@ -75,7 +75,7 @@ fn a_plan_finds_an_object_gone_once_it_is_dead(rt: HostRuntime) {
 fn a_plan_watches_and_unwatches(rt: HostRuntime) {
     let alloc = rt.alloc();
     let (system, passes) = counters_for(&rt, alloc, 1, 1, &[0]);
-    let spread = To::Layout(LayoutName::Spread);
+    let spread = To::Layout(1);
     let plan = vec![in alloc; (0, To::Watch), (0, spread), (0, To::Unwatch)].expect(&rt, "memory");
     let end = roll_through(&rt, alloc, &system, passes, plan);
     let due = [Swapped::Done(1), Swapped::Done(2), Swapped::Done(3)];
@@ -93,7 +93,7 @@ fn a_plan_is_carried_out_beside_calls(rt: HostRuntime) {
     let (system, mut passes) = counters_for(&rt, alloc, 2, 4, &[0, 1, 0, 1, 0, 1]);
     let mut callers = Vec::new(alloc);
     take_over(&rt, &system, &mut passes, &mut callers, 3);
-    let spread = To::Layout(LayoutName::Spread);
+    let spread = To::Layout(1);
     let plan = vec![in alloc; (0, spread), (1, spread), (2, spread), (3, spread)].expect(
         &rt, "memory",
     );

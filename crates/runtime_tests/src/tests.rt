@@ -1,5 +1,5 @@
 //! Plans that are refused, and calls, swaps and destroys that meet on one thread.
-use crate::tests::crews::{COUNTER, Three, closed, counters, ended, kept_of, listed, started};
+use crate::tests::crews::{Three, closed, counter, counters, ended, kept_of, listed, started};
 use crate::tests::ending::{
     add_two_million, destroy_once, find_gone, free_once, swap_and_keep_none,
 };
@@ -10,9 +10,9 @@ use crate::tests::watching::{
     Deed, call_of, called, find_layout, follow, refuse_beside, swap_and_call, swapped,
     watch_and_call,
 };
+use co_system::{Keep, Plan, PlanFault, Swapped, kept_as};
 use k42_crews::{end, last, section};
 use k42_kinds::{Act, Answer, Entry, KindName, LayoutName, Op, Reply, To};
-use k42_runtime::{Keep, ObjectPlan, Plan, PlanFault, Swapped};
 
 mod crews;
 mod ending;
@@ -58,7 +58,7 @@ fn a_plan_is_refused_for_its_first_fault(rt: HostRuntime) {
         (2, 1, [0, 2], 2, PlanFault::Processor { caller: 1 }),
     ];
     for (procs, objects, homes, callers, due) in cases {
-        let objects = vec![in alloc; COUNTER; objects].expect(&rt, "memory");
+        let objects = vec![in alloc; counter(); objects].expect(&rt, "memory");
         let mut homes = homes.as_slice().to_vec(alloc).expect(&rt, "memory");
         homes.truncate(callers);
         assert!(rt; Plan::new(procs, objects, homes, Keep::All).err() == Some(due));
@@ -136,7 +136,7 @@ fn a_destroyed_object_is_gone(rt: HostRuntime) {
         called(Op::Add(5), Reply::Done),
         swapped(To::Dead, 1),
         called(Op::Get, Reply::Gone),
-        (Act::Swap(To::Layout(LayoutName::Spread)), Answer::Gone),
+        (Act::Swap(To::Layout(1)), Answer::Gone),
         (Act::Swap(To::Dead), Answer::Gone),
     ];
     assert!(rt; are_told(entries.as_slice(), due.as_slice()));
@@ -150,7 +150,7 @@ fn a_system_that_keeps_nothing_is_called_swapped_and_ended(rt: HostRuntime) {
     let deeds = [
         called(Op::Add(5), Reply::Done),
         called(Op::Add(30), Reply::Done),
-        swapped(To::Layout(LayoutName::Spread), 1),
+        swapped(To::Layout(1), 1),
         called(Op::Add(200), Reply::Done),
         called(Op::Get, Reply::Number(235)),
     ];
@@ -182,11 +182,11 @@ fn a_watched_counter_tells_its_calls_until_it_is_unwatched(rt: HostRuntime) {
         called(Op::Add(5), Reply::Done),
         called(Op::Get, Reply::Number(5)),
         called(Op::Seen, Reply::Number(2)),
-        swapped(To::Layout(LayoutName::Spread), 2),
+        swapped(To::Layout(1), 2),
         called(Op::Seen, Reply::Number(2)),
         called(Op::Add(1), Reply::Done),
         called(Op::Seen, Reply::Number(3)),
-        swapped(To::Layout(LayoutName::Shared), 3),
+        swapped(To::Layout(0), 3),
         called(Op::Seen, Reply::Number(3)),
         swapped(To::Watch, 4),
         called(Op::Seen, Reply::Number(0)),
@@ -223,7 +223,7 @@ fn a_dead_object_is_not_watched_and_tells_no_count(rt: HostRuntime) {
 #[test]
 fn a_watch_and_another_swap_refuse_each_other(rt: HostRuntime) {
     let alloc = rt.alloc();
-    let spread = To::Layout(LayoutName::Spread);
+    let spread = To::Layout(1);
     let cases = [
         (spread, To::Watch),
         (To::Watch, spread),
@@ -253,7 +253,7 @@ fn each_kind_is_watched_in_both_layouts(rt: HostRuntime) {
     for kind in [KindName::Counter, KindName::Directory, KindName::Pages] {
         for (layout, other) in [(shared, spread), (spread, shared)] {
             let (op, again) = call_of(&rt, kind);
-            let object = ObjectPlan { kind, layout };
+            let object = kept_as(kind, layout);
             let (system, crew) = started(&rt, alloc, object, 1, 2, Keep::All);
             let Three {
                 mut zero,
@@ -261,7 +261,8 @@ fn each_kind_is_watched_in_both_layouts(rt: HostRuntime) {
                 mut two,
             } = crew;
             watch_and_call(&rt, alloc, &system, &mut zero, &mut one, &op, &again);
-            find_layout(&rt, alloc, &system, &mut two, To::Layout(layout), layout);
+            let same = To::Layout(layout.number());
+            find_layout(&rt, alloc, &system, &mut two, same, layout);
             swap_and_call(&rt, alloc, &system, &mut zero, &mut one, &op, &again, other);
             find_layout(&rt, alloc, &system, &mut two, To::Dead, other);
             closed(&rt, alloc, system, zero, one, two);

@@ -7,9 +7,9 @@ use crate::tests::sixteen::{SIXTEEN, entries_of_all, entries_of_many, late_of_al
 use crate::tests::staying::LongStay;
 use crate::tests::swapping::{CALLS, ToAndFro};
 use crate::tests::watching::{Instrument, figures_told, has_figure};
+use co_system::{Pass, System};
 use k42_crews::{call_once, work_all};
 use k42_kinds::{Answer, Entry, KindName, Op, Reply};
-use k42_runtime::{Pass, System};
 use std::alloc::Global;
 use std::process::Abort;
 use std::sync::Wait;

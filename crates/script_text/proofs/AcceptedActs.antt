@@ -37,7 +37,7 @@ use Rattle.script_text.proofs.AcceptedForms.{test_held, range_of_below}
 use Rattle.script_text.proofs.OpenBlocks.{outside_from, outside_when}
 use Rattle.script_text.proofs.SoundSteps.{IsSoundSoFar}
 use Rattle.script_text.proofs.SpelledLines.{accepted_where}
-use Rattle.script_text.proofs.Spellings.{number_below-decimal, act_says, op_said, act_said, name_of-name, form_of-act}
+use Rattle.script_text.proofs.Spellings.{number_below-decimal, act_says, HasItsWord, op_said, act_said, name_of-name, form_of-act}
 
 -- each number, key and text is in its range where the tests find each
 module _ where
@@ -71,7 +71,7 @@ module _ where
 
 range_when : (act : Act Op) → HasShortNumbers act → lacks_number (act_said act) ≡ false → lacks_word (act_said act) ≡ false → IsInRange act
 range_when (Call op) short numbers words = op_range_when op short numbers words
-range_when (Swap to) short numbers words = tt
+range_when (Swap to) short numbers words = short
 
 range_from : (act : Act Op) → IsInRange act → (lacks_number (act_said act) ≡ false) × (lacks_word (act_said act) ≡ false)
 range_from (Call op) range = op_range_from op range
@@ -109,7 +109,7 @@ page_named Seen range = tt
 -- an object of this kind takes the act where no test finds that another kind is asked
 takes_when : (kind : KindName) (act : Act Op) → IsInRange act → is_another_kind (kind_asked (act_said act)) (Some kind) ≡ false → IsActOn kind act
 takes_when kind (Call op) range own = (not-false _ (rw (another_kind-op kind op) at own), page_named op range)
-takes_when kind (Swap to) range own = tt
+takes_when kind (Swap to) range own = range
 
 takes_from : (kind : KindName) (act : Act Op) → IsActOn kind act → is_another_kind (kind_asked (act_said act)) (Some kind) ≡ false
 takes_from kind (Call op) takes = rw (another_kind-op kind op, takes.0) refl
@@ -232,8 +232,12 @@ declared_word script name act free some =
     let own : IsFreeName some.1.name = subst (λ (object : ObjectLine). IsFreeName object.name) some.3 (All-get_or (λ (object : ObjectLine). IsFreeName object.name) script.objects some.0 some.1 some.2 free) in
     subst (λ (word : List ℕ). is_name word ≡ true) some.4.named own.formed
 
+word_when : (act : Act Op) → HasShortNumbers act → HasItsWord act
+word_when (Call op) short = tt
+word_when (Swap to) short = short
+
 pub accepted_act : (before : List (List ℕ)) (name : List ℕ) (act : Act Op) → BeginsCall name → HasShortNumbers act → IsAcceptedWhere before (act_tokens name act) (MayAsk (script_after before) name act)
-accepted_act before name act begins short = accepted_where before (act_tokens name act) (forms.Asks (name_of name) (act_said act)) (MayAsk script name act) (act_says name act begins.said) (form_of-act script.procs name act begins.free) (λ sound are. (
+accepted_act before name act begins short = accepted_where before (act_tokens name act) (forms.Asks (name_of name) (act_said act)) (MayAsk script name act) (act_says name act begins.said) (form_of-act script.procs name act begins.free (word_when act short)) (λ sound are. (
   λ passes.
       let range = range_when act short passes.numbers passes.words in
       let worker : 0 < length script.workers = grind (arith, nat_tests, passes.worker) in

@@ -71,7 +71,7 @@ stranger lawful = omega (arith, All-at_split (λ (entry : Entry Op Reply). entry
 
 -- the worker `a` asks for a swap of the counter
 abbrev one_swap : Script
-one_swap = record two_workers { workers = record adder { items = asks 4 (Swap (Layout Shared)) ∷ [] } ∷ [] }
+one_swap = record two_workers { workers = record adder { items = asks 4 (Swap (Layout 0)) ∷ [] } ∷ [] }
 
-given_up : IsLawful one_swap (line 1 0 0 0 (Swap (Layout Shared)) (Abandoned 1) ∷ []) → ⊥
-given_up lawful = All-at_split (λ (entry : Entry Op Reply). IsNotGivenUp entry.answer) _ lawful.none_given_up [] (line 1 0 0 0 (Swap (Layout Shared)) (Abandoned 1)) [] refl
+given_up : IsLawful one_swap (line 1 0 0 0 (Swap (Layout 0)) (Abandoned 1) ∷ []) → ⊥
+given_up lawful = All-at_split (λ (entry : Entry Op Reply). IsNotGivenUp entry.answer) _ lawful.none_given_up [] (line 1 0 0 0 (Swap (Layout 0)) (Abandoned 1)) [] refl

@@ -31,3 +31,4 @@ mod UnlawfulHistories
 mod AtTheBounds
 mod MatchedBlocks
 mod LayerLines
+mod NamedLayouts

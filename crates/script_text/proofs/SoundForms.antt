@@ -10,7 +10,10 @@ use Rattle.k42_kinds.specs.declared.entry.To.{To}
 use Rattle.k42_kinds.specs.declared.entry.To.TheVariants.{Layout, Dead, Watch, Unwatch}
 use Rattle.k42_kinds.specs.declared.operation.KindName.{KindName}
 use Rattle.k42_kinds.specs.declared.operation.LayoutName.{LayoutName}
+use Rattle.k42_kinds.specs.declared.operation.LayoutName.TheVariants.{Shared, Spread}
+use Rattle.k42_kinds.specs.Operations.{layout_number}
 use Rattle.k42_limits.specs.declared.TheConstants.{PROCESSORS, PAGES}
+use Rattle.script_text.specs.Acts.{HasWord}
 use Rattle.script_text.specs.Numbers.{number_of, number_within, number_below}
 use Rattle.script_text.specs.Forms.{is_reserved, free_name, name_of, page_of, page_text_of, kind_named, layout_named, head_of, procs_form, object_declared, swap_to_form, request_of, form_behind, form_of, begins_procs}
 use Rattle.script_text.specs.Sound.{IsFreeName}
@@ -21,18 +24,19 @@ use Rattle.script_text.specs.declared.form.Head.TheVariants as heads
 use Rattle.script_text.specs.declared.form.Request.{Request}
 use Rattle.script_text.specs.declared.form.Request.TheVariants.{Swap, Write, Read}
 
--- a page that the request names is there
-abbrev pub HasPage : Request → Type 0
-HasPage (Write (Some page) text) = page < PAGES
-HasPage (Read (Some page)) = page < PAGES
-HasPage _ = Unit {0}
+-- a page that the request names is there, and what it swaps to has a word
+abbrev pub HasNamed : Request → Type 0
+HasNamed (Write (Some page) text) = page < PAGES
+HasNamed (Read (Some page)) = page < PAGES
+HasNamed (Swap to) = HasWord to
+HasNamed _ = Unit {0}
 
 -- each part that there is is one that a line may say, where there are so many processors
 abbrev pub IsFormed : ℕ → Form → Type 0
 IsFormed procs (forms.Procs (Some number)) = (1 ≤ number) × (number ≤ PROCESSORS)
 IsFormed procs (forms.Object (Some name) kind layout) = IsFreeName name
 IsFormed procs (forms.Worker (Some name) (Some proc)) = IsFreeName name × (proc < procs)
-IsFormed procs (forms.Asks object request) = HasPage request
+IsFormed procs (forms.Asks object request) = HasNamed request
 IsFormed procs _ = Unit {0}
 
 -- it is a line of processors
@@ -73,10 +77,10 @@ module _ (procs : ℕ) where
   worker_formed (Some name) None word number named placed = tt
   worker_formed (Some name) (Some proc) word number named placed = (free_name-is_free word name named, below-range procs number proc placed)
 
-  swap_to_formed : (to : To) (tokens : List (List ℕ)) → IfSome (swap_to_form to tokens) (IsFormed procs)
-  swap_to_formed to [] = tt
-  swap_to_formed to (object ∷ []) = tt
-  swap_to_formed to (a ∷ b ∷ tokens) = tt
+  swap_to_formed : (to : To) → HasWord to → (tokens : List (List ℕ)) → IfSome (swap_to_form to tokens) (IsFormed procs)
+  swap_to_formed to named [] = tt
+  swap_to_formed to named (object ∷ []) = named
+  swap_to_formed to named (a ∷ b ∷ tokens) = tt
 
   declared_formed : (word : List ℕ) (kind : Option KindName) (layout : Option LayoutName) → IfSome (object_declared word kind layout) (IsFormed procs)
   declared_formed word None None = tt
@@ -92,31 +96,36 @@ if_some_map : {A B : Type 0} (P : A → Type 0) (Q : B → Type 0) (f : A → B)
 if_some_map P Q f None each holds = tt
 if_some_map P Q f (Some x) each holds = each x holds
 
-read_page : (page : Option ℕ) (word : List ℕ) → page_of word ≡ page → HasPage (Read page)
+-- the number of a layout that has a name has a word
+pub number_has_word : (layout : LayoutName) → HasWord (Layout (layout_number layout))
+number_has_word Shared = omega arith
+number_has_word Spread = omega arith
+
+read_page : (page : Option ℕ) (word : List ℕ) → page_of word ≡ page → HasNamed (Read page)
 read_page None word e = tt
 read_page (Some page) word e = below-range PAGES word page e
 
-write_page : (page : Option ℕ) (text : Option (List ℕ)) (word : List ℕ) → page_of word ≡ page → HasPage (Write page text)
+write_page : (page : Option ℕ) (text : Option (List ℕ)) (word : List ℕ) → page_of word ≡ page → HasNamed (Write page text)
 write_page None text word e = tt
 write_page (Some page) text word e = below-range PAGES word page e
 
-request_of-page : (tokens : List (List ℕ)) → IfSome (request_of tokens) HasPage
+request_of-page : (tokens : List (List ℕ)) → IfSome (request_of tokens) HasNamed
 request_of-page [] = tt
 request_of-page (word ∷ []) =
-    if_some_cond HasPage (bytes_eq word (codes "get")) _ _ tt (
-    if_some_cond HasPage (bytes_eq word (codes "drain")) _ _ tt (
-    if_some_cond HasPage (bytes_eq word (codes "size")) _ _ tt (
-    if_some_cond HasPage (bytes_eq word (codes "dirty")) _ _ tt (
-    if_some_cond HasPage (bytes_eq word (codes "clean")) _ _ tt (
-    if_some_cond HasPage (bytes_eq word (codes "seen")) _ _ tt tt)))))
+    if_some_cond HasNamed (bytes_eq word (codes "get")) _ _ tt (
+    if_some_cond HasNamed (bytes_eq word (codes "drain")) _ _ tt (
+    if_some_cond HasNamed (bytes_eq word (codes "size")) _ _ tt (
+    if_some_cond HasNamed (bytes_eq word (codes "dirty")) _ _ tt (
+    if_some_cond HasNamed (bytes_eq word (codes "clean")) _ _ tt (
+    if_some_cond HasNamed (bytes_eq word (codes "seen")) _ _ tt tt)))))
 request_of-page (word ∷ argument ∷ []) =
-    if_some_cond HasPage (bytes_eq word (codes "add")) _ _ tt (
-    if_some_cond HasPage (bytes_eq word (codes "find")) _ _ tt (
-    if_some_cond HasPage (bytes_eq word (codes "unbind")) _ _ tt (
-    if_some_cond HasPage (bytes_eq word (codes "read")) _ _ (read_page (page_of argument) argument refl) tt)))
+    if_some_cond HasNamed (bytes_eq word (codes "add")) _ _ tt (
+    if_some_cond HasNamed (bytes_eq word (codes "find")) _ _ tt (
+    if_some_cond HasNamed (bytes_eq word (codes "unbind")) _ _ tt (
+    if_some_cond HasNamed (bytes_eq word (codes "read")) _ _ (read_page (page_of argument) argument refl) tt)))
 request_of-page (word ∷ first ∷ second ∷ []) =
-    if_some_cond HasPage (bytes_eq word (codes "bind")) _ _ tt (
-    if_some_cond HasPage (bytes_eq word (codes "write")) _ _ (write_page (page_of first) (page_text_of second) first refl) tt)
+    if_some_cond HasNamed (bytes_eq word (codes "bind")) _ _ tt (
+    if_some_cond HasNamed (bytes_eq word (codes "write")) _ _ (write_page (page_of first) (page_text_of second) first refl) tt)
 request_of-page (word ∷ first ∷ second ∷ third ∷ tokens) = tt
 
 module _ (procs : ℕ) where
@@ -140,17 +149,17 @@ module _ (procs : ℕ) where
   form_behind-formed heads.Swap word [] = tt
   form_behind-formed heads.Swap word (object ∷ []) = tt
   form_behind-formed heads.Swap word (object ∷ layout ∷ []) =
-      if_some_map (λ (named : LayoutName). Unit {0}) (IsFormed procs) (λ named. forms.Asks (name_of object) (Swap (Layout named))) (layout_named layout) (λ named any. tt) (any_some (layout_named layout))
+      if_some_map (λ (named : LayoutName). Unit {0}) (IsFormed procs) (λ named. forms.Asks (name_of object) (Swap (Layout (layout_number named)))) (layout_named layout) (λ named any. number_has_word named) (any_some (layout_named layout))
     where
       any_some : (layout : Option LayoutName) → IfSome layout (λ (named : LayoutName). Unit {0})
       any_some None = tt
       any_some (Some named) = tt
   form_behind-formed heads.Swap word (a ∷ b ∷ c ∷ tokens) = tt
-  form_behind-formed heads.Destroy word tokens = swap_to_formed procs Dead tokens
-  form_behind-formed heads.Watch word tokens = swap_to_formed procs Watch tokens
-  form_behind-formed heads.Unwatch word tokens = swap_to_formed procs Unwatch tokens
+  form_behind-formed heads.Destroy word tokens = swap_to_formed procs Dead tt tokens
+  form_behind-formed heads.Watch word tokens = swap_to_formed procs Watch tt tokens
+  form_behind-formed heads.Unwatch word tokens = swap_to_formed procs Unwatch tt tokens
   form_behind-formed heads.Call word tokens =
-      if_some_map HasPage (IsFormed procs) (λ request. forms.Asks (name_of word) request) (request_of tokens) (λ request page. page) (request_of-page tokens)
+      if_some_map HasNamed (IsFormed procs) (λ request. forms.Asks (name_of word) request) (request_of tokens) (λ request page. page) (request_of-page tokens)
 
   pub form_of-formed : (tokens : List (List ℕ)) → IfSome (form_of procs tokens) (IsFormed procs)
   form_of-formed [] = tt

@@ -24,7 +24,7 @@ use Rattle.script_text.specs.declared.form.Request.TheVariants.{Swap, Add, Get, 
 use Rattle.script_text.specs.declared.script.Item.TheVariants.{Begin, End, Line}
 use Rattle.script_text.specs.declared.script.ObjectLine.{ObjectLine}
 use Rattle.script_text.specs.declared.script.Script.{Script}
-use Rattle.script_text.proofs.SoundForms.{HasPage, IsFormed, IsProcs}
+use Rattle.script_text.proofs.SoundForms.{HasNamed, IsFormed, IsProcs}
 use Rattle.script_text.proofs.SoundSteps.{IsSoundSoFar, same_script, keeps_procs, keeps_object, keeps_worker, keeps_item}
 
 -- An act may be asked of an object of this kind, where its request does not ask for another kind.
@@ -32,8 +32,8 @@ module _ (kind : KindName) (act : Act Op) where
   called : (op : Op) → Some (acts.Call op) ≡ Some act → not ((watched_object kind).takes op) ≡ false → NamesPage op → IsActOn kind act
   called op spells takes page = subst (IsActOn kind) (same_Some (acts.Call op) act spells) (not-false ((watched_object kind).takes op) takes, page)
 
-  act_of-asked : (request : Request) → act_of request ≡ Some act → HasPage request → is_another_kind (kind_asked request) (Some kind) ≡ false → IsActOn kind act
-  act_of-asked (Swap to) spells page same = subst (IsActOn kind) (same_Some (acts.Swap to) act spells) tt
+  act_of-asked : (request : Request) → act_of request ≡ Some act → HasNamed request → is_another_kind (kind_asked request) (Some kind) ≡ false → IsActOn kind act
+  act_of-asked (Swap to) spells page same = subst (IsActOn kind) (same_Some (acts.Swap to) act spells) page
   act_of-asked (Add None) spells page same = absurd (none-some act spells)
   act_of-asked (Add (Some amount)) spells page same = called _ spells same tt
   act_of-asked Get spells page same = called _ spells same tt
@@ -106,7 +106,7 @@ pub record Passes (script : Script) (form : Form) : Type 0 where
   pub few : is_too_many script form ≡ false
   pub in_place : breaks_block script form ≡ false
 
-module _ (next : ℕ) (script : Script) (sound : IsSoundSoFar next script) (some : script.procs ≡ 0 → ⊥) (object : Option (List ℕ)) (request : Request) (page : HasPage request) (passes : Passes script (forms.Asks object request)) where
+module _ (next : ℕ) (script : Script) (sound : IsSoundSoFar next script) (some : script.procs ≡ 0 → ⊥) (object : Option (List ℕ)) (request : Request) (page : HasNamed request) (passes : Passes script (forms.Asks object request)) where
   keeps_call : (place : Option ℕ) (act : Option (Act Op)) → place_among (object_names script) object ≡ place → act_of request ≡ act → IsSoundSoFar (next + 1) (with_call script next place act)
   keeps_call None None found spells = same_script next script sound
   keeps_call None (Some act) found spells = same_script next script sound

@@ -9,11 +9,12 @@ use Rattle.std.proofs.lemmas.Fmt.{decimal_digit}
 use Rattle.std.proofs.lemmas.Option.{same_Some}
 use Rattle.std.proofs.lemmas.List.Elements.{All-from_recursion}
 use Rattle.k42_kinds.specs.declared.operation.KindName.TheVariants.{Counter, Directory, Pages}
-use Rattle.script_text.specs.Generated.{hits, names, cache, value_at, swap_line, call_line, step_line, steps_of, step_items, worker_line, worker_lines, generated}
+use Rattle.script_text.specs.Generated.{hits, names, cache, value_at, layout_at, swap_line, call_line, step_line, steps_of, step_items, worker_line, worker_lines, generated}
 use Rattle.script_text.specs.Lawful.{call_lines}
 use Rattle.script_text.specs.Sound.{IsSoundLine, IsSoundWorker, IsFreeName, AreDistinct, BlocksMatch, IsSound}
 use Rattle.script_text.specs.declared.script.CallLine.{CallLine}
 use Rattle.script_text.proofs.GeneratedSteps.{few_steps}
+use Rattle.script_text.proofs.SoundForms.{number_has_word}
 use Rattle.script_text.proofs.SoundLists.{absent}
 
 -- what holds of both holds of the one that is chosen
@@ -22,9 +23,9 @@ either P true x y of_x of_y = of_x
 either P false x y of_x of_y = of_y
 
 sound_swap : (n number k object : ℕ) → object < 3 → IsSoundLine (generated n) (swap_line number k object)
-sound_swap n number k zero declared = record { kind = Counter; declared = refl; asked = tt }
-sound_swap n number k (suc zero) declared = record { kind = Directory; declared = refl; asked = tt }
-sound_swap n number k (suc (suc zero)) declared = record { kind = Pages; declared = refl; asked = tt }
+sound_swap n number k zero declared = record { kind = Counter; declared = refl; asked = number_has_word (layout_at k) }
+sound_swap n number k (suc zero) declared = record { kind = Directory; declared = refl; asked = number_has_word (layout_at k) }
+sound_swap n number k (suc (suc zero)) declared = record { kind = Pages; declared = refl; asked = number_has_word (layout_at k) }
 sound_swap n number k (suc (suc (suc object))) declared = absurd (omega (arith, declared))
 
 sound_call : (n number k value : ℕ) → IsSoundLine (generated n) (call_line number k value)

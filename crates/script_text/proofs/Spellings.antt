@@ -1,5 +1,5 @@
 -- What a line says, where it is spelled as its form is.
-use Rattle.std.proofs.Common.{◌≡◌, ℕ, ◌<◌, ◌≤◌, ◌^◌, true, false, ◌&&◌, eqb, List, [], ◌∷◌, length, refl, sym, ap, ◌∙◌, arith}
+use Rattle.std.proofs.Common.{◌≡◌, ℕ, zero, suc, ◌<◌, ◌≤◌, ◌^◌, true, false, ◌&&◌, eqb, List, [], ◌∷◌, length, refl, sym, ap, ◌∙◌, arith}
 use Rattle.std.specs.Prelude.{Option, Some, None, codes, nat_le, nat_lt}
 use Rattle.std.specs.List.{AllByRecursion, list_all}
 use Rattle.std.specs.Fmt.{decimal}
@@ -19,7 +19,7 @@ use Rattle.k42_kinds.specs.declared.operation.LayoutName.TheVariants.{Shared, Sp
 use Rattle.k42_kinds.specs.declared.operation.Op.{Op}
 use Rattle.k42_kinds.specs.declared.operation.Op.TheVariants.{Add, Get, Drain, Bind, Find, Unbind, Size, Write, Read, Dirty, Clean, Seen}
 use Rattle.k42_limits.specs.declared.TheConstants.{PROCESSORS, PAGES, AMOUNTS}
-use Rattle.script_text.specs.Acts.{layout_word, operation_word, argument_tokens, act_tokens}
+use Rattle.script_text.specs.Acts.{layout_word, numbered_layout_word, HasWord, operation_word, argument_tokens, act_tokens}
 use Rattle.script_text.specs.Forms.{is_reserved, name_of, page_of, page_text_of, kind_named, layout_named, head_of, request_of, form_of}
 use Rattle.script_text.specs.Language.{act_of, with_line, with_said, with_object, with_worker, with_last_item}
 use Rattle.script_text.specs.Numbers.{number_within, number_below}
@@ -115,6 +115,11 @@ kind_token Pages = refl
 layout_token : (layout : LayoutName) → IsToken (layout_word layout)
 layout_token Shared = refl
 layout_token Spread = refl
+
+numbered_layout_token : (number : ℕ) → number < 2 → IsToken (numbered_layout_word number)
+numbered_layout_token zero named = refl
+numbered_layout_token (suc zero) named = refl
+numbered_layout_token (suc (suc number)) named = absurd (omega (arith, named))
 
 -- `object NAME KIND LAYOUT`
 pub object_line : (script : Script) (number : ℕ) (object : ObjectLine) → IsFreeName object.name → with_line script number (spaced (object_tokens object)) ≡ with_object script object
@@ -227,39 +232,50 @@ act_of-act : (act : Act Op) → IsInRange act → act_of (act_said act) ≡ Some
 act_of-act (Call op) in_range = act_of-op op in_range
 act_of-act (Swap to) in_range = refl
 
+-- a swap is to what has a word
+abbrev pub HasItsWord : Act Op → Type 0
+HasItsWord (Call op) = Unit {0}
+HasItsWord (Swap to) = HasWord to
+
+word_in_range : (act : Act Op) → IsInRange act → HasItsWord act
+word_in_range (Call op) in_range = tt
+word_in_range (Swap to) in_range = in_range
+
 -- a line that asks something of an object, as its tokens, which are no remark
 pub act_says : (name : List ℕ) (act : Act Op) → is_remark name ≡ false → says_nothing (act_tokens name act) ≡ false
 act_says name (Call op) said = said
-act_says name (Swap (Layout layout)) said = refl
+act_says name (Swap (Layout number)) said = refl
 act_says name (Swap Dead) said = refl
 act_says name (Swap Watch) said = refl
 act_says name (Swap Unwatch) said = refl
 
 all_tokens : (name : List ℕ) (act : Act Op) → IsFreeName name → IsInRange act → AllByRecursion IsToken (act_tokens name act)
 all_tokens name (Call op) free in_range = (token_name name free.formed, op_tokens op in_range)
-all_tokens name (Swap (Layout layout)) free in_range = (refl, (token_name name free.formed, (layout_token layout, tt)))
+all_tokens name (Swap (Layout number)) free in_range = (refl, (token_name name free.formed, (numbered_layout_token number in_range, tt)))
 all_tokens name (Swap Dead) free in_range = (refl, (token_name name free.formed, tt))
 all_tokens name (Swap Watch) free in_range = (refl, (token_name name free.formed, tt))
 all_tokens name (Swap Unwatch) free in_range = (refl, (token_name name free.formed, tt))
 
-pub form_of-act : (procs : ℕ) (name : List ℕ) (act : Act Op) → is_reserved name ≡ false → form_of procs (act_tokens name act) ≡ Some (forms.Asks (name_of name) (act_said act))
-form_of-act procs name (Call op) free = rw (head_of-free name free, request_of-op op) refl
-form_of-act procs name (Swap (Layout layout)) free = rw (layout_named-word layout) refl
-form_of-act procs name (Swap Dead) free = refl
-form_of-act procs name (Swap Watch) free = refl
-form_of-act procs name (Swap Unwatch) free = refl
+pub form_of-act : (procs : ℕ) (name : List ℕ) (act : Act Op) → is_reserved name ≡ false → HasItsWord act → form_of procs (act_tokens name act) ≡ Some (forms.Asks (name_of name) (act_said act))
+form_of-act procs name (Call op) free named = rw (head_of-free name free, request_of-op op) refl
+form_of-act procs name (Swap (Layout zero)) free named = refl
+form_of-act procs name (Swap (Layout (suc zero))) free named = refl
+form_of-act procs name (Swap (Layout (suc (suc number)))) free named = absurd (omega (arith, named))
+form_of-act procs name (Swap Dead) free named = refl
+form_of-act procs name (Swap Watch) free named = refl
+form_of-act procs name (Swap Unwatch) free named = refl
 
 pub name_of-name : (name : List ℕ) → is_name name ≡ true → name_of name ≡ Some name
 name_of-name name formed = rw formed refl
 
-form_of-named : (procs : ℕ) (name : List ℕ) (act : Act Op) → IsFreeName name → form_of procs (act_tokens name act) ≡ Some (forms.Asks (Some name) (act_said act))
-form_of-named procs name act free = form_of-act procs name act free.free ∙ ap (λ given. Some (forms.Asks given (act_said act))) (name_of-name name free.formed)
+form_of-named : (procs : ℕ) (name : List ℕ) (act : Act Op) → IsFreeName name → HasItsWord act → form_of procs (act_tokens name act) ≡ Some (forms.Asks (Some name) (act_said act))
+form_of-named procs name act free named = form_of-act procs name act free.free named ∙ ap (λ given. Some (forms.Asks given (act_said act))) (name_of-name name free.formed)
 
 -- a line that asks something of an object
 pub act_line : (script : Script) (number place : ℕ) (name : List ℕ) (act : Act Op) → IsFreeName name → place_among (object_names script) (Some name) ≡ Some place → IsInRange act → with_line script number (spaced (act_tokens name act)) ≡ with_last_item script (items.Line (record { line = number; object = place; act = act }))
 act_line script number place name act free declared in_range =
     with_line-spaced script number (act_tokens name act) (all_tokens name act free in_range) (act_says name act (says-name name free.formed))
-    ∙ rw (form_of-named script.procs name act free, declared, act_of-act act in_range) refl
+    ∙ rw (form_of-named script.procs name act free (word_in_range act in_range), declared, act_of-act act in_range) refl
 
 -- the name and the act that a form says
 said_name : Option Form → Option (List ℕ)
@@ -275,7 +291,7 @@ form_of_text text = form_of 1 (tokens_of text)
 
 form_of_text-act : (name : List ℕ) (act : Act Op) → IsFreeName name → IsInRange act → form_of_text (spaced (act_tokens name act)) ≡ Some (forms.Asks (Some name) (act_said act))
 unfolding form_of_text
-form_of_text-act name act free in_range = rw (tokens_of-spaced (act_tokens name act) (all_tokens name act free in_range)) (form_of-named 1 name act free)
+form_of_text-act name act free in_range = rw (tokens_of-spaced (act_tokens name act) (all_tokens name act free in_range)) (form_of-named 1 name act free (word_in_range act in_range))
 
 -- two acts of one spelling are one, on one object
 pub act_spelling : (name other : List ℕ) (act another : Act Op) → IsFreeName name → IsFreeName other → IsInRange act → IsInRange another → spaced (act_tokens name act) ≡ spaced (act_tokens other another) → (name ≡ other) × (act ≡ another)

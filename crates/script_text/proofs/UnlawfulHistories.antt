@@ -2,7 +2,7 @@
 use Rattle.std.proofs.Common.{ℕ, List, [], ◌∷◌, map, refl, ap, arith}
 use Rattle.std.specs.Prelude.{codes}
 use Rattle.k42_kinds.specs.declared.operation.KindName.TheVariants.{Counter}
-use Rattle.k42_kinds.specs.declared.operation.LayoutName.TheVariants.{Shared, Spread}
+use Rattle.k42_kinds.specs.declared.operation.LayoutName.TheVariants.{Shared}
 use Rattle.k42_kinds.specs.declared.operation.Op.{Op}
 use Rattle.k42_kinds.specs.declared.operation.Op.TheVariants.{Add, Get}
 use Rattle.k42_kinds.specs.declared.operation.Reply.{Reply}
@@ -59,16 +59,16 @@ other_place lawful = let same = ap (λ (deeds : List Deed). map (λ (deed : Deed
 
 -- two workers ask for a swap of one counter, and nobody else does
 abbrev swapper : List ℕ → ℕ → WorkerLines
-swapper name number = worker name (asks number 0 (Swap (Layout Spread)) ∷ [])
+swapper name number = worker name (asks number 0 (Swap (Layout 1)) ∷ [])
 
 abbrev two_swaps : Script
 two_swaps = record { procs = 1; objects = counter (codes "hits") ∷ []; workers = swapper (codes "a") 4 ∷ swapper (codes "b") 6 ∷ [] }
 
 abbrev one_refusal : Entry Op Reply
-one_refusal = line 1 0 0 0 (Swap (Layout Spread)) (Busy 1)
+one_refusal = line 1 0 0 0 (Swap (Layout 1)) (Busy 1)
 
 abbrev other_refusal : Entry Op Reply
-other_refusal = line 2 1 0 0 (Swap (Layout Spread)) (Busy 1)
+other_refusal = line 2 1 0 0 (Swap (Layout 1)) (Busy 1)
 
 refused_both : IsLawful two_swaps (one_refusal ∷ other_refusal ∷ []) → ⊥
 refused_both lawful =

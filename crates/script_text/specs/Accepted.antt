@@ -4,9 +4,10 @@ use Rattle.std.specs.List.{list_all}
 use Rattle.k42_kinds.specs.Words.{is_visible}
 use Rattle.k42_kinds.specs.declared.operation.Op.{Op}
 use Rattle.k42_kinds.specs.declared.entry.Act.{Act}
-use Rattle.k42_kinds.specs.declared.entry.Act.TheVariants.{Call}
+use Rattle.k42_kinds.specs.declared.entry.Act.TheVariants.{Call, Swap}
 use Rattle.k42_kinds.specs.declared.operation.Op.TheVariants.{Add, Bind, Write, Read}
 use Rattle.k42_limits.specs.declared.TheConstants.{PROCESSORS, OBJECTS, CALLERS, CALL_LINES, SCRIPT_BYTES}
+use Rattle.script_text.specs.Acts.{HasWord}
 use Rattle.script_text.specs.Forms.{is_reserved}
 use Rattle.script_text.specs.Language.{cause_of, NoneOffends}
 use Rattle.script_text.specs.Lines.{byte_count}
@@ -101,10 +102,11 @@ pub record BeginsCall (word : List ℕ) : Type 0 where
   pub free : is_reserved word ≡ false
   pub said : is_remark word ≡ false
 
--- its numbers have at most 64 bits
+-- its numbers have at most 64 bits, and what a swap is to has a word
 abbrev pub HasShortNumbers : Act Op → Type 0
 HasShortNumbers (Call (Add amount)) = amount < 2 ^ 64
 HasShortNumbers (Call (Bind key number)) = number < 2 ^ 64
 HasShortNumbers (Call (Write page text)) = page < 2 ^ 64
 HasShortNumbers (Call (Read page)) = page < 2 ^ 64
-HasShortNumbers _ = Unit {0}
+HasShortNumbers (Call _) = Unit {0}
+HasShortNumbers (Swap to) = HasWord to

@@ -1,5 +1,5 @@
 -- How an act on an object of a given name is spelled, in a script as in a record.
-use Rattle.std.specs.Prelude.{ℕ, List, [], ◌∷◌, codes}
+use Rattle.std.specs.Prelude.{ℕ, ◌<◌, ◌==◌, if◌then◌else◌, List, [], ◌∷◌, codes}
 use Rattle.std.specs.Fmt.{decimal}
 use Rattle.k42_kinds.specs.declared.operation.LayoutName.{LayoutName}
 use Rattle.k42_kinds.specs.declared.operation.LayoutName.TheVariants.{Shared, Spread}
@@ -7,12 +7,23 @@ use Rattle.k42_kinds.specs.declared.operation.Op.{Op}
 use Rattle.k42_kinds.specs.declared.operation.Op.TheVariants.{Add, Get, Drain, Bind, Find, Unbind, Size, Write, Read, Dirty, Clean, Seen}
 use Rattle.k42_kinds.specs.declared.entry.Act.{Act}
 use Rattle.k42_kinds.specs.declared.entry.Act.TheVariants.{Call, Swap}
+use Rattle.k42_kinds.specs.declared.entry.To.{To}
 use Rattle.k42_kinds.specs.declared.entry.To.TheVariants.{Layout, Dead, Watch, Unwatch}
 
 -- the word of a layout
 abbrev pub layout_word : LayoutName → List ℕ
 layout_word Shared = codes "shared"
 layout_word Spread = codes "spread"
+
+-- The word of the layout of this number. Only layouts 0 and 1 have a word of their own.
+abbrev pub numbered_layout_word : ℕ → List ℕ
+numbered_layout_word number = if number == 0 then codes "shared" else codes "spread"
+
+-- what a swap is to has a word of its own: one of the two layouts that scripts and records name,
+-- or what is no layout
+abbrev pub HasWord : To → Type 0
+HasWord (Layout number) = number < 2
+HasWord _ = Unit {0}
 
 -- the word of an operation
 abbrev pub operation_word : Op → List ℕ
@@ -43,7 +54,8 @@ argument_tokens _ = []
 -- `unwatch OBJECT`
 abbrev pub act_tokens : List ℕ → Act Op → List (List ℕ)
 act_tokens object (Call op) = object ∷ operation_word op ∷ argument_tokens op
-act_tokens object (Swap (Layout layout)) = codes "swap" ∷ object ∷ layout_word layout ∷ []
+act_tokens object (Swap (Layout number)) =
+    codes "swap" ∷ object ∷ numbered_layout_word number ∷ []
 act_tokens object (Swap Dead) = codes "destroy" ∷ object ∷ []
 act_tokens object (Swap Watch) = codes "watch" ∷ object ∷ []
 act_tokens object (Swap Unwatch) = codes "unwatch" ∷ object ∷ []

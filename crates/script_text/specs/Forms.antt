@@ -9,6 +9,7 @@ use Rattle.k42_kinds.specs.declared.operation.KindName.{KindName}
 use Rattle.k42_kinds.specs.declared.operation.KindName.TheVariants.{Counter, Directory, Pages}
 use Rattle.k42_kinds.specs.declared.operation.LayoutName.{LayoutName}
 use Rattle.k42_kinds.specs.declared.operation.LayoutName.TheVariants.{Shared, Spread}
+use Rattle.k42_kinds.specs.Operations.{layout_number}
 use Rattle.k42_limits.specs.declared.TheConstants.{PROCESSORS, PAGES, AMOUNTS}
 use Rattle.script_text.specs.Numbers.{number_within, number_below}
 use Rattle.script_text.specs.declared.form.Form.{Form}
@@ -96,7 +97,8 @@ alone form _ = None
 -- `OBJECT LAYOUT`
 abbrev pub swap_form : List (List ℕ) → Option Form
 swap_form (object ∷ layout ∷ []) =
-    option_map (λ named. forms.Asks (name_of object) (Swap (Layout named))) (layout_named layout)
+    option_map (λ named. forms.Asks (name_of object) (Swap (Layout (layout_number named))))
+    (layout_named layout)
 swap_form _ = None
 
 -- `OBJECT`, to be kept as the first word says

@@ -7,6 +7,7 @@ use Rattle.k42_kinds.specs.declared.entry.To.TheVariants.{Layout}
 use Rattle.k42_kinds.specs.declared.operation.KindName.TheVariants.{Counter, Directory, Pages}
 use Rattle.k42_kinds.specs.declared.operation.LayoutName.{LayoutName}
 use Rattle.k42_kinds.specs.declared.operation.LayoutName.TheVariants.{Shared, Spread}
+use Rattle.k42_kinds.specs.Operations.{layout_number}
 use Rattle.k42_kinds.specs.declared.operation.Op.TheVariants.{Add, Bind, Write}
 use Rattle.k42_limits.specs.declared.TheConstants.{PAGES}
 use Rattle.script_text.specs.declared.script.CallLine.{CallLine}
@@ -53,7 +54,7 @@ layout_at k = if k / 1000 % 2 == 0 then Spread else Shared
 -- the line of this number, which swaps an object at step k
 abbrev pub swap_line : ℕ → ℕ → ℕ → CallLine
 swap_line number k object =
-    record { line = number; object = object; act = Swap (Layout (layout_at k)) }
+    record { line = number; object = object; act = Swap (Layout (layout_number (layout_at k))) }
 
 -- the line of this number, which calls the three objects by turns at step k with this value
 abbrev pub call_line : ℕ → ℕ → ℕ → CallLine

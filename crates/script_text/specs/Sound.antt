@@ -8,6 +8,7 @@ use Rattle.k42_kinds.specs.declared.operation.Op.TheVariants.{Write, Read}
 use Rattle.k42_kinds.specs.Watched.{watched_object}
 use Rattle.k42_kinds.specs.Words.{is_name}
 use Rattle.k42_limits.specs.declared.TheConstants.{PROCESSORS, OBJECTS, CALLERS, CALL_LINES, PAGES}
+use Rattle.script_text.specs.Acts.{HasWord}
 use Rattle.script_text.specs.Forms.{is_reserved}
 use Rattle.script_text.specs.Lawful.{kinds_of, call_lines}
 use Rattle.script_text.specs.declared.script.CallLine.{CallLine}
@@ -22,10 +23,10 @@ NamesPage (Write page text) = page < PAGES
 NamesPage (Read page) = page < PAGES
 NamesPage _ = Unit {0}
 
--- the act may be asked of an object of this kind: an operation that it takes, or any swap
+-- the act may be asked of an object of this kind: an operation that it takes, or a swap that has a word
 abbrev pub IsActOn : KindName → Act Op → Type 0
 IsActOn kind (Call op) = IsTrue ((watched_object kind).takes op) × NamesPage op
-IsActOn kind (Swap to) = Unit {0}
+IsActOn kind (Swap to) = HasWord to
 
 -- the line asks of a declared object what may be asked of it
 pub record IsSoundLine (script : Script) (line : CallLine) : Type 0 where

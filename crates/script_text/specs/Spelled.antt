@@ -10,7 +10,7 @@ use Rattle.k42_kinds.specs.declared.operation.KindName.TheVariants.{Counter, Dir
 use Rattle.k42_kinds.specs.declared.operation.Op.{Op}
 use Rattle.k42_kinds.specs.declared.operation.Op.TheVariants.{Add, Bind, Find, Unbind, Write, Read}
 use Rattle.k42_limits.specs.declared.TheConstants.{AMOUNTS, PAGES, LINE_FEED, SPACE}
-use Rattle.script_text.specs.Acts.{layout_word}
+use Rattle.script_text.specs.Acts.{HasWord, layout_word}
 use Rattle.script_text.specs.Tokens.{is_space, has_bytes}
 use Rattle.script_text.specs.declared.script.ObjectLine.{ObjectLine}
 use Rattle.script_text.specs.declared.script.WorkerHead.{WorkerHead}
@@ -67,7 +67,7 @@ IsOpInRange (Write page text) = (page < PAGES) × (is_text text ≡ true)
 IsOpInRange (Read page) = page < PAGES
 IsOpInRange _ = Unit {0}
 
--- The same of what an act asks.
+-- The same of what an act asks, and what a swap is to has a word.
 abbrev pub IsInRange : Act Op → Type 0
 IsInRange (Call op) = IsOpInRange op
-IsInRange (Swap to) = Unit {0}
+IsInRange (Swap to) = HasWord to

@@ -207,7 +207,7 @@ fn swap_asked(object: &[u8], layout: &[u8]) -> Option<Form>
     ensures { result ≡ spelling.swap_form (object.now ∷ layout.now ∷ []) }
 {
     let layout = layout_named(layout)?;
-    Some(Form::Asks(name_of(object), Request::Swap(To::Layout(layout))))
+    Some(Form::Asks(name_of(object), Request::Swap(To::Layout(layout.number()))))
 }
 
 fn swap_form(text: &[u8]) -> Option<Form>

@@ -126,7 +126,7 @@ fn swap_line(line: u32, step: u32, object: u32) -> CallLine
     CallLine {
         line,
         object,
-        act: Act::Swap(To::Layout(layout)),
+        act: Act::Swap(To::Layout(layout.number())),
     }
 }
 

@@ -3,10 +3,10 @@ ghost use Rattle.std.specs.Prelude.{◌≡◌, IfOk, IfSome};
 ghost use Rattle.k42_board.specs.declared.keep.Keep.TheVariants.{All};
 ghost use Rattle.k42_crews.specs.Ready.{AreFree, IsFree};
 
+use co_system::{Keep, NoCall, NoSwap, Pass, Plan, Swapped, System, kept_as};
 use k42_crews::{call_once, close, last, start, swap_once};
 use k42_kinds::{Answer, Entry, KindName, LayoutName, Op, Reply};
 use k42_memory::Memory;
-use k42_runtime::{Keep, NoCall, NoSwap, ObjectPlan, Pass, Plan, Swapped, System};
 use std::alloc::Global;
 use std::sync::Wait;
 
@@ -26,12 +26,7 @@ fn counter(alloc: Global) -> Result<Option<(System, Vec<Pass>)>, Memory>
     ensures free { IfOk result (λ made. IfSome made (λ crew. AreFree crew.0 crew.1.items)) }
     ensures keeps { IfOk result (λ made. IfSome made (λ crew. crew.0.plan.keep ≡ All)) }
 {
-    let objects = vec![in alloc;
-        ObjectPlan {
-            kind: KindName::Counter,
-            layout: LayoutName::Shared
-        },
-    ]?;
+    let objects = vec![in alloc; kept_as(KindName::Counter, LayoutName::Shared)]?;
     let homes = vec![in alloc; 0, 0]?;
     match Plan::new(1, objects, homes, Keep::All) {
         Ok(plan) => Ok(Some(start(alloc, plan)?)),
@@ -54,8 +49,8 @@ fn are_answered<R: Wait>(
     ensures zero { IsFree system.now zero.new }
     ensures one { IsFree system.now one.new }
 {
-    let end = swap_once(rt, alloc, system, zero, 0, LayoutName::Spread)?;
-    let other = swap_once(rt, alloc, system, one, 0, LayoutName::Shared)?;
+    let end = swap_once(rt, alloc, system, zero, 0, LayoutName::Spread.number())?;
+    let other = swap_once(rt, alloc, system, one, 0, LayoutName::Shared.number())?;
     Ok(end == Some(first) && other == Some(second))
 }
 

@@ -11,7 +11,8 @@ use Rattle.k42_places.specs.Places.{EachPair}
 use Rattle.k42_places.proofs.EachPlaces.{EachPlace-replicate}
 use Rattle.k42_runtime.proofs.SwapSteps.{same_caller}
 use Rattle.k42_runtime.specs.Swaps.{HasAbandoned}
-use Rattle.k42_runtime.specs.Systems.{SystemSeen, SystemPass, SystemPart}
+use Rattle.co_system.specs.Systems.{SystemSeen, SystemPass, SystemPart}
+use Rattle.k42_runtime.specs.Systems.{live_in}
 use Rattle.k42_runtime.specs.declared.swaps.Stage.TheVariants.{New}
 use Rattle.k42_runtime.specs.declared.swaps.NoSwap.{NoSwap}
 use Rattle.k42_runtime.specs.declared.swaps.NoSwap.TheVariants.{Memory, Worn}
@@ -53,7 +54,7 @@ module _ (system : SystemSeen) (plan : List (ℕ × To)) (answers : List (Result
       ⊎_elim
       (λ (u : (New ≡ New) × (mid.view ≡ old.view)).
       (rest.0, rest.1 ∙ ap (λ (v : PassView SystemPart Op Reply). v.taker.mine ++ rest.0) u.1, inl rest.2))
-      (λ (u : HasAbandoned asked.0 asked.1 old.view mid.view). (
+      (λ (u : HasAbandoned (live_in system.sys.shapes asked.0) asked.0 asked.1 old.view mid.view). (
         u.entry ∷ rest.0,
         rest.1 ∙ ap (λ mine. mine ++ rest.0) u.drawn ∙ append_assoc old.view.taker.mine (u.entry ∷ []) rest.0,
         inr (

@@ -2,7 +2,8 @@
 use Rattle.std.proofs.Common.{◌≡◌, ⊎_elim, inl, inr, ◌↔◌, ℕ, Result, Ok, Err, refl, sym, ap, ◌∙◌}
 use Rattle.k42_board.specs.declared.view.PassView.{PassView}
 use Rattle.k42_runtime.specs.Swaps.{HasAbandoned, HasEnded, IsWornOut}
-use Rattle.k42_runtime.specs.Systems.{SystemSeen, SystemPass, SystemPart}
+use Rattle.co_system.specs.Systems.{SystemSeen, SystemPass, SystemPart}
+use Rattle.k42_runtime.specs.Systems.{live_in}
 use Rattle.k42_runtime.specs.declared.swaps.NoSwap.{NoSwap}
 use Rattle.k42_runtime.specs.declared.swaps.Stage.TheVariants.{New}
 use Rattle.k42_runtime.specs.declared.swaps.NoSwap.TheVariants.{Worn}
@@ -44,7 +45,7 @@ module _ (system : SystemSeen) (object : ℕ) (to : To) (old new : SystemPass) w
     ended = tt;
     memory = λ e.
         ⊎_elim (λ (u : (New ≡ New) × (new.view ≡ old.view)). inl (unchanged old.view new.view u.1))
-        (λ (u : HasAbandoned object to old.view new.view). inr u) (is.memory e);
+        (λ (u : HasAbandoned (live_in system.sys.shapes object) object to old.view new.view). inr u) (is.memory e);
     worn = worn_now (Err error) is;
     kept = λ e. unchanged old.view new.view (ap (λ (p : SystemPass). p.view) (is.kept e));
   }

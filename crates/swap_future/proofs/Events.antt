@@ -6,7 +6,7 @@ use Rattle.k42_places.proofs.Counts.{count_by-set_more, count_by-set_less, count
 use Rattle.k42_places.proofs.Written.{at_set, slice_get-set_here, slice_get-set_else}
 use Rattle.k42_runtime.specs.Phases.{last_step}
 use Rattle.k42_runtime.specs.Swaps.{SwapSeen, HasStepped}
-use Rattle.k42_runtime.specs.Systems.{SystemSeen, SystemPass}
+use Rattle.co_system.specs.Systems.{SystemSeen, SystemPass}
 use Rattle.k42_runtime.specs.declared.swaps.Cause.{Cause}
 use Rattle.k42_runtime.specs.declared.swaps.Step.TheVariants.{Again}
 use Rattle.k42_runtime.specs.declared.swaps.NoSwap.{NoSwap}
@@ -16,7 +16,7 @@ use Rattle.swap_future.specs.Polling.{Ends}
 use Rattle.swap_future.specs.Rolling.{RollSeen, HasGotOn, IsRolling, IsLane, IsNotFlown, Agrees, Carries, GetsOn, first_flight, items_of}
 use Rattle.swap_future.specs.declared.rolling.Flight.{Flight}
 use Rattle.swap_future.proofs.Places.{item_of_taker, no_item_of_others, set_here, there}
-use Rattle.swap_future.proofs.Polled.{ends_by}
+use Rattle.swap_future.proofs.Polled.{ends_by, leads_on}
 use Rattle.swap_future.proofs.Rolls.{same_lane}
 use Rattle.swap_future.proofs.Waited.{not_moved}
 
@@ -73,6 +73,7 @@ module _ (system : SystemSeen) (a : RollSeen) (place : ℕ) (is : IsRolling syst
               },
             );
             going = refl;
+            leads = is.leads a.taken asked next;
           },
           omega arith,
           subst (λ (o : Option (ℕ × To)). IsSomeAnd o (λ other. (asked.0 ≡ other.0) × (asked.1 ≡ other.1))) (sym next) (refl, refl),
@@ -110,6 +111,7 @@ module _ (system : SystemSeen) (a : RollSeen) (place : ℕ) (is : IsRolling syst
           let more = count_by-set_more is_some a.flights place None (Some taking) at_flight refl refl in let left = is.left in
           omega (arith, more, left);
       objects = is.objects;
+      leads = is.leads;
       lanes = λ other f old at_f at_old.
           ⊎_elim
           (λ (t : (other ≡ place) × (Some taking ≡ f)).
@@ -190,7 +192,12 @@ module _ (system : SystemSeen) (a : RollSeen) (place : ℕ) (is : IsRolling syst
 
       pub waits_lane : IsLane system a (Some waiting) new
       waits_lane = (
-        record { here = step.here; stage = step.stage; going = step.over },
+        record {
+          here = step.here;
+          stage = step.stage;
+          going = step.over;
+          leads = leads_on system f.swap t (Again cause) old new lane.0.leads step;
+        },
         lane.1,
         same_item (slice_get a.plan f.item) lane.2,
       )
@@ -217,6 +224,7 @@ module _ (system : SystemSeen) (a : RollSeen) (place : ℕ) (is : IsRolling syst
             let same = count_by-set_same is_some a.flights place (Some f) (Some waiting) at_flight refl in let left = is.left in
             omega (arith, same, left);
         objects = is.objects;
+        leads = is.leads;
         lanes = λ other g pass at_g at_new.
             ⊎_elim
             (λ (u : (other ≡ place) × (Some waiting ≡ g)).
@@ -279,6 +287,7 @@ module _ (system : SystemSeen) (a : RollSeen) (place : ℕ) (is : IsRolling syst
             let less = count_by-set_less is_some a.flights place (Some f) None at_flight refl refl in let left = is.left in let some = some_left f at_flight in
             omega (arith, less, left, some);
         objects = is.objects;
+        leads = is.leads;
         lanes = λ other g pass at_g at_new.
             ⊎_elim
             (λ (u : (other ≡ place) × (None ≡ g)).

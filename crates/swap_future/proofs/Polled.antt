@@ -1,20 +1,30 @@
 -- A swap that is stepped at polls: how it goes on, and what its last step brings.
-use Rattle.std.proofs.Common.{ℕ, ◌+◌, ◌≤◌, Option, Result, Ok, Err, refl, ◌∙◌, arith}
+use Rattle.std.proofs.Common.{ℕ, ◌+◌, ◌≤◌, Option, Result, Ok, Err, refl, sym, subst, ◌∙◌, arith}
 use Rattle.k42_runtime.specs.Phases.{last_step}
-use Rattle.k42_runtime.specs.Swaps.{SwapSeen, HasStepped, graces_due}
-use Rattle.k42_runtime.specs.Systems.{SystemSeen, SystemPass}
+use Rattle.k42_runtime.specs.Swaps.{SwapSeen, HasBrought, HasStepped, IsEndBy, graces_due}
+use Rattle.co_system.specs.Systems.{SystemSeen, SystemPass, MayLead}
+use Rattle.k42_board.specs.Views.{word_begun}
+use Rattle.k42_runtime.specs.Systems.{live_in}
 use Rattle.k42_runtime.specs.declared.swaps.Cause.{Cause}
 use Rattle.k42_runtime.specs.declared.swaps.NoSwap.{NoSwap}
 use Rattle.k42_runtime.specs.declared.swaps.NoSwap.TheVariants as reasons
 use Rattle.k42_runtime.specs.declared.swaps.Stage.{Stage}
-use Rattle.k42_runtime.specs.declared.swaps.Step.TheVariants.{Again}
+use Rattle.k42_runtime.specs.declared.swaps.Step.{Step}
+use Rattle.k42_runtime.specs.declared.swaps.Step.TheVariants.{Again, Memory}
 use Rattle.k42_runtime.specs.declared.swaps.Swapped.{Swapped}
+use Rattle.k42_kinds.specs.declared.entry.To.{To}
 use Rattle.k42_runtime.proofs.SwapSteps.{HasComeOn, same_caller, fewer, swapped_since, memory_since, worn_before}
 use Rattle.k42_runtime.proofs.SwapWaits.{not_stepped, stepped_again, rests_over}
 use Rattle.swap_future.specs.Polling.{IsGoing, Ends}
 
 fewer_due : (new old due : ℕ) (stage : Stage) (holder : Option ℕ) → new + graces_due stage holder ≤ old + due → new ≤ old + due
 fewer_due new old due stage holder few = omega (arith, few)
+
+-- a step keeps the object of its swap, and where that leads
+pub leads_on : (system : SystemSeen) (s t : SwapSeen) (result : Step) (old new : SystemPass) → MayLead system.plan s.object s.to
+    → HasStepped system result s t old new → MayLead system.plan t.object t.to
+leads_on system s t result old new leads step =
+    subst (λ (x : ℕ × To). MayLead system.plan x.0 x.1) (λ j. (sym step.object j, sym step.to j)) leads
 
 module _ (system : SystemSeen) (s t : SwapSeen) (old new : SystemPass) where
   -- a last step leaves its pass so
@@ -73,7 +83,7 @@ module _ (system : SystemSeen) (s m : SwapSeen) (old mid new : SystemPass) (come
     keep = is.keep ∙ comes.keep;
     caller = same_caller old.view mid.view new.view comes.caller is.caller;
     graces = graces_before is.graces;
-    told = is.told;
+    told = subst (λ (o : ℕ). IsEndBy (live_in system.sys.shapes o) (word_begun new.view.last) end) comes.object is.told;
     ended = swapped_since system s m m old mid new comes end is.ended;
     memory = λ e. absurd (cc);
     worn = worn_before system s m m old mid new comes is.worn;
@@ -88,14 +98,21 @@ module _ (system : SystemSeen) (s m : SwapSeen) (old mid new : SystemPass) (come
     graces = graces_before is.graces;
     told = tt;
     ended = tt;
-    memory = λ e. memory_since system s m m old mid new comes (is.memory e);
+    memory = λ e.
+        memory_since system s m m old mid new comes (live_in system.sys.shapes s.object)
+        (subst (λ (o : ℕ). HasBrought (live_in system.sys.shapes o) Memory m mid new) comes.object (is.memory e));
     worn = worn_before system s m m old mid new comes is.worn;
     kept = λ e. is.kept e ∙ (comes.waits (is.worn.0 e).0).1;
   }
 
 module _ (system : SystemSeen) (s m : SwapSeen) (old mid : SystemPass) (cause : Cause) (going : IsGoing system s old) (step : HasStepped system (Again cause) s m old mid) where
   pub still_going : IsGoing system m mid
-  still_going = record { here = step.here; stage = step.stage; going = step.over }
+  still_going = record {
+    here = step.here;
+    stage = step.stage;
+    going = step.over;
+    leads = leads_on system s m (Again cause) old mid going.leads step;
+  }
 
   comes_on : HasComeOn s m old mid
   comes_on = (stepped_again system s s m old old mid cause (not_stepped system s old going.here going.stage going.going) step).comes

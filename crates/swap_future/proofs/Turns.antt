@@ -9,7 +9,8 @@ use Rattle.k42_places.proofs.EachPlaces.{EachPlace-replicate}
 use Rattle.k42_places.proofs.Written.{slice_get-set_else, slice_get-set_here}
 use Rattle.k42_runtime.specs.Phases.{last_step}
 use Rattle.k42_runtime.specs.Swaps.{SwapSeen, HasStepped}
-use Rattle.k42_runtime.specs.Systems.{SystemSeen, IsPassHere, IsAtRest, SystemPass}
+use Rattle.co_system.specs.Systems.{SystemSeen, SystemPass, MayLead}
+use Rattle.k42_runtime.specs.Systems.{IsPassHere, IsAtRest}
 use Rattle.k42_runtime.specs.declared.swaps.Cause.{Cause}
 use Rattle.k42_runtime.specs.declared.swaps.Step.TheVariants.{Again}
 use Rattle.k42_runtime.specs.declared.swaps.NoSwap.{NoSwap}
@@ -276,8 +277,9 @@ rolled_now system b is none = record {
 -- a roll that has not begun
 pub new_rolls : (system : SystemSeen) (plan : List (ℕ × To)) (passes : List SystemPass) → 0 < length passes
     → EachPlace (λ i. MayRoll system) passes → EachPlace (λ i asked. asked.0 < length system.plan.objects) plan
+    → EachPlace (λ i asked. MayLead system.plan asked.0 asked.1) plan → length system.sys.shapes ≡ length system.plan.objects
     → IsRolling system (new_roll plan passes)
-new_rolls system plan passes some each objects = record {
+new_rolls system plan passes some each objects leads shaped = record {
   some = some;
   flights = length-replicate (length passes) None;
   answers = length-replicate (length plan) unanswered;
@@ -285,7 +287,8 @@ new_rolls system plan passes some each objects = record {
   left =
       let none = count_by_none is_some (replicate (length passes) None) (EachPlace-replicate (λ i (f : Option Flight). is_some f ≡ false) (length passes) None (λ i. refl)) in
       omega (arith, none);
-  objects = objects;
+  objects = λ i asked at. let less = objects i asked at in omega (arith, less, shaped);
+  leads = leads;
   lanes = λ place f pass at_f at_pass.
       let may = each place pass at_pass in
       subst (λ (g : Option Flight). IsLane system (new_roll plan passes) g pass) (sym (idle place f at_f))

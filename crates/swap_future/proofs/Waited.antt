@@ -2,7 +2,8 @@
 use Rattle.std.proofs.Common.{◌≡◌, ℕ, ◌+◌, List, [], ◌∷◌, ◌++◌, Option, Some, None, Result, IsSomeAnd, refl, sym, subst, ◌∙◌, arith}
 use Rattle.std.specs.Prelude.{slice_get}
 use Rattle.k42_runtime.specs.Swaps.{SwapSeen, HasStepped, graces_due}
-use Rattle.k42_runtime.specs.Systems.{SystemSeen, SystemPass}
+use Rattle.co_system.specs.Systems.{SystemSeen, SystemPass}
+use Rattle.k42_runtime.specs.Systems.{live_in}
 use Rattle.k42_runtime.specs.declared.swaps.Cause.{Cause}
 use Rattle.k42_runtime.specs.declared.swaps.Step.TheVariants.{Again, Worn}
 use Rattle.k42_runtime.specs.declared.swaps.NoSwap.{NoSwap}
@@ -38,7 +39,7 @@ comes_again system s m t old mid new cause comes step = record {
   keep = step.keep ∙ comes.keep;
   caller = same_caller old.view mid.view new.view comes.caller step.caller;
   drawn = step.brought.0 ∙ comes.drawn;
-  log = follows_on comes.log (held_follows cause mid.view new.view step.brought.1);
+  log = follows_on comes.log (held_follows (live_in system.sys.shapes m.object) cause mid.view new.view step.brought.1);
   graces =
       let first = comes.graces in let second = step.graces in
       fewer (old.view.graces + graces_due s.stage s.holder) (mid.view.graces + graces_due m.stage m.holder)

@@ -2,7 +2,8 @@
 use Rattle.std.specs.Prelude.{◌≡◌, ◌≢◌, ℕ, ◌+◌, ◌<◌, ◌≤◌, ◌⊎◌, ◌==◌, if◌then◌else◌, List, [], ◌∷◌, length, replicate, set, Option, Some, None, Result, Err, IsSomeAnd, slice_get, is_some, count_by}
 use Rattle.k42_places.specs.Places.{EachPlace, EachPair}
 use Rattle.k42_runtime.specs.Swaps.{SwapSeen, HasStepped}
-use Rattle.k42_runtime.specs.Systems.{SystemSeen, IsPassHere, IsAtRest, SystemPass}
+use Rattle.co_system.specs.Systems.{SystemSeen, SystemPass, MayLead}
+use Rattle.k42_runtime.specs.Systems.{IsPassHere, IsAtRest}
 use Rattle.k42_runtime.specs.declared.swaps.Cause.{Cause}
 use Rattle.k42_runtime.specs.declared.swaps.Step.TheVariants.{Again}
 use Rattle.k42_runtime.specs.declared.swaps.NoSwap.{NoSwap}
@@ -165,7 +166,8 @@ pub record IsRolling (system : SystemSeen) (r : RollSeen) : Type 0 where
   pub answers : length r.answers ≡ length r.plan
   pub taken : r.taken ≤ length r.plan
   pub left : r.left + r.taken ≡ length r.plan + count_by is_some r.flights
-  pub objects : EachPlace (λ i asked. asked.0 < length system.plan.objects) r.plan
+  pub objects : EachPlace (λ i asked. asked.0 < length system.sys.shapes) r.plan
+  pub leads : EachPlace (λ i asked. MayLead system.plan asked.0 asked.1) r.plan
   pub lanes : EachPair (λ place. IsLane system r) r.flights r.passes
   pub apart : AreApart r.flights
 

@@ -11,7 +11,7 @@ use Rattle.k42_runtime.specs.declared.swaps.NoSwap.{NoSwap}
 use Rattle.k42_runtime.specs.declared.swaps.NoSwap.TheVariants.{Memory, Worn}
 use Rattle.k42_runtime.specs.declared.swaps.Swapped.{Swapped}
 use Rattle.k42_kinds.specs.declared.entry.To.{To}
-use Rattle.k42_runtime.specs.Systems.{SystemPass}
+use Rattle.co_system.specs.Systems.{SystemPass}
 
 -- the entry has the item's object and act, and this answer
 pub record IsEntryOf (asked : ℕ × To) (answer : Answer Reply) (entry : Entry Op Reply) : Type 0 where

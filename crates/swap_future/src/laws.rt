@@ -2,7 +2,7 @@
 ghost use Rattle.std.specs.Prelude.{ℕ, List, Result};
 ghost use Rattle.k42_kinds.specs.declared.entry.To.{To};
 ghost use Rattle.k42_places.specs.Places.{EachPair};
-ghost use Rattle.k42_runtime.specs.Systems.{SystemSeen, SystemPass};
+ghost use Rattle.co_system.specs.Systems.{SystemSeen, SystemPass};
 ghost use Rattle.k42_runtime.specs.declared.swaps.NoSwap.{NoSwap};
 ghost use Rattle.k42_runtime.specs.declared.swaps.Swapped.{Swapped};
 ghost use Rattle.swap_future.specs.Rolling.{HasRolled, items_of, new_roll};

@@ -1,5 +1,6 @@
 //! A swap that is polled.
 ghost use Rattle.std.specs.Prelude.{◌≡◌, length, None, Some, IsSome, IsSomeAnd};
+ghost use Rattle.co_system.specs.Systems.{MayLead};
 ghost use Rattle.futures.specs.Poll.{IfReady, OnPending};
 ghost use Rattle.futures.specs.Task.{Covers, Keeps};
 ghost use Rattle.k42_runtime.specs.Phases.{last_step};
@@ -8,9 +9,9 @@ ghost use Rattle.k42_runtime.specs.Systems.{IsPassHere};
 ghost use Rattle.swap_future.specs.declared.polling.SwapEnd.{SwapEnd};
 ghost use Rattle.swap_future.specs.Polling.{IsGoing, Ends, WasHeldUp, new_swap};
 
+use co_system::{Cause, NoSwap, Pass, Step, Swap, Swapped, System, To};
 use futures::Future;
 use futures::task::{Context, Poll};
-use k42_runtime::{Cause, NoSwap, Pass, Step, Swap, Swapped, System, To};
 use std::alloc::Global;
 
 /// How a swap ended, and its pass.
@@ -38,6 +39,7 @@ impl<'a> SwapFuture<'a> {
     pub fn new(alloc: Global, system: &'a System, pass: Pass, object: u32, to: To) -> SwapFuture<'a>
         requires ours { IsPassHere system.now pass }
         requires may { MayStart (length system.now.plan.objects) object pass }
+        requires leads { MayLead system.now.plan object to }
         ensures system { result.system.now ≡ system.now }
         ensures pass { result.pass ≡ Some pass }
         ensures swap { result.swap ≡ new_swap object to }

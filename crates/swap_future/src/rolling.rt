@@ -1,5 +1,6 @@
 //! A plan of swaps that passes carry out side by side, one swap in flight for each.
 ghost use Rattle.std.specs.Prelude.{◌≡◌, ◌<◌, ◌≤◌, ◌-◌, ◌+◌, true, false, [], length, replicate, set, slice_get, None, Some, Ok, Err, IfOk, IfErr, IsSomeAnd, IfSome, option_and_then};
+ghost use Rattle.co_system.specs.Systems.{MayLead};
 ghost use Rattle.futures.specs.Poll.{IfReady, OnPending};
 ghost use Rattle.futures.specs.Task.{Covers, Keeps};
 ghost use Rattle.k42_places.specs.Places.{EachPlace};
@@ -8,10 +9,10 @@ ghost use Rattle.swap_future.specs.declared.rolling.Rolled.{Rolled};
 ghost use Rattle.swap_future.specs.Rolling.{IsRolling, HasGotOn, HasRolled, IsAtHand, MayRoll, seen, new_roll, cause_at};
 ghost use Rattle.swap_future.specs.Rounds.{HasEndedNone, HasFinished, HasGoneRound, HasTurned, IsHeldUp};
 
+use co_system::{Cause, NoSwap, Pass, Step, Swap, Swapped, System, To};
 use futures::Future;
 use futures::task::{Context, Poll};
 use k42_memory::Memory;
-use k42_runtime::{Cause, NoSwap, Pass, Step, Swap, Swapped, System, To};
 use std::alloc::Global;
 use std::mem;
 
@@ -209,11 +210,14 @@ impl<'a> Roll<'a> {
         requires some { 0 < length passes.items }
         requires passes { EachPlace (λ i. MayRoll system.now) passes.items }
         requires objects { EachPlace (λ i asked. asked.0 < length system.now.plan.objects) plan.items }
+        requires leads { EachPlace (λ i asked. MayLead system.now.plan asked.0 asked.1) plan.items }
         ensures system { IfOk result (λ roll. roll.system.now ≡ system.now) }
         ensures new { IfOk result (λ roll. IsSomeAnd roll.rolling (λ rolling. seen rolling ≡ new_roll plan.items passes.items)) }
         ensures rolls { IfOk result (λ roll. IsSomeAnd roll.rolling (λ rolling. IsRolling system.now (seen rolling))) }
         ensures back { IfErr result (λ back. back.passes.items ≡ passes.items) }
     {
+        // The table has as many.
+        let _objects = system.objects();
         let rolling = start_rolling(alloc, passes, plan)?;
         Ok(Roll {
             alloc,

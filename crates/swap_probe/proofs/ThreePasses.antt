@@ -5,7 +5,7 @@ use Rattle.std.proofs.lemmas.Option.{same_Some}
 use Rattle.k42_board.specs.declared.keep.Keep.TheVariants.{All}
 use Rattle.k42_rule.specs.Finishing.{IsPassAtRest}
 use Rattle.k42_runtime.specs.Histories.{MayClose}
-use Rattle.k42_runtime.specs.Systems.{SystemSeen, SystemPass, IsPlanned}
+use Rattle.co_system.specs.Systems.{SystemSeen, SystemPass, IsPlanned}
 use Rattle.k42_crews.specs.Ready.{IsFree}
 
 at_rest : (system : SystemSeen) (c : ℕ) (pass other : SystemPass) → IsFree system pass → pass.view.number ≡ c → pass ≡ other → IsPassAtRest system.sys c other

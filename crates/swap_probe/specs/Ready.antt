@@ -1,9 +1,10 @@
 -- A swap between two of its steps.
-use Rattle.std.specs.Prelude.{length}
 use Rattle.k42_runtime.specs.Swaps.{SwapSeen, IsAtStage}
-use Rattle.k42_runtime.specs.Systems.{SystemSeen, IsPassHere, SystemPass}
+use Rattle.co_system.specs.Systems.{SystemSeen, SystemPass, MayLead}
+use Rattle.k42_runtime.specs.Systems.{IsPassHere}
 
--- the pass is one of the system, and as the last step of the swap left it
+-- the pass is one of the system, and as the last step of the swap left it, which leads where one of its object may
 pub record IsSwapping (system : SystemSeen) (swap : SwapSeen) (pass : SystemPass) : Type 0 where
   pub here : IsPassHere system pass
-  pub stage : IsAtStage swap.stage (length system.plan.objects) swap pass
+  pub stage : IsAtStage swap.stage system.sys.shapes swap pass
+  pub leads : MayLead system.plan swap.object swap.to

@@ -4,9 +4,9 @@ ghost use Rattle.k42_board.specs.declared.keep.Keep.TheVariants.{All};
 ghost use Rattle.k42_crews.specs.Ready.{IsFree};
 
 use crate::steps::Fault;
+use co_system::{History, Pass, System};
 use k42_kinds::{Answer, Entry, Op, Reply};
 use k42_memory::Memory;
-use k42_runtime::{History, Pass, System};
 use std::alloc::Global;
 
 /// The three as a list.

@@ -6,10 +6,10 @@ ghost use Rattle.swap_probe.specs.Ready.{IsSwapping};
 
 use crate::closing::{are_answered, closed};
 use crate::steps::{Fault, ask, due, end_swap, free, new_swap, step};
+use co_system::{Cause, Keep, Pass, Plan, Step, Swap, Swapped, System, kept_as};
 use k42_crews::{call_once, last, start, swap_once};
 use k42_kinds::{Answer, Entry, KindName, LayoutName, Op, Reply};
 use k42_memory::Memory;
-use k42_runtime::{Cause, Keep, ObjectPlan, Pass, Plan, Step, Swap, Swapped, System};
 use std::alloc::Global;
 use std::sync::Wait;
 
@@ -44,12 +44,7 @@ struct Three {
 fn plan_of(alloc: Global) -> Result<Option<Plan>, Memory>
     ensures keeps { IfOk result (λ made. IfSome made (λ plan. plan.keep ≡ All)) }
 {
-    let objects = vec![in alloc;
-        ObjectPlan {
-            kind: KindName::Counter,
-            layout: LayoutName::Shared
-        },
-    ]?;
+    let objects = vec![in alloc; kept_as(KindName::Counter, LayoutName::Shared)]?;
     let homes = vec![in alloc; 0, 0, 0]?;
     Ok(Plan::new(1, objects, homes, Keep::All).ok())
 }
@@ -118,11 +113,11 @@ fn find_busy<R: Wait>(rt: &R, alloc: Global, system: &System, pass: &mut Pass) -
     ensures { OnOk result (IsFree system.now pass.new) }
 {
     let busy = Some(Swapped::Busy(1));
-    if let Ok(end) = swap_once(rt, alloc, system, pass, 0, LayoutName::Spread) {
+    if let Ok(end) = swap_once(rt, alloc, system, pass, 0, LayoutName::Spread.number()) {
         return due(end == busy);
     }
     due(pass.drawn() == 0)?;
-    due(swap_once(rt, alloc, system, pass, 0, LayoutName::Spread)? == busy)
+    due(swap_once(rt, alloc, system, pass, 0, LayoutName::Spread.number())? == busy)
 }
 
 /// Finds the counter's value in an activity of its own.

@@ -3,10 +3,10 @@ ghost use Rattle.std.specs.Prelude.{OnOk, IfOk};
 ghost use Rattle.k42_crews.specs.Ready.{IsFree, IsIn};
 ghost use Rattle.swap_probe.specs.Ready.{IsSwapping};
 
-use k42_kinds::{LayoutName, Op, Reply, To};
+use co_system::{NoCall, NoSwap, Pass, Step, Swap, System};
+use k42_kinds::{Op, Reply, To};
 use k42_limits::PASS_GRACES;
 use k42_memory::Memory;
-use k42_runtime::{NoCall, NoSwap, Pass, Step, Swap, System};
 use std::alloc::Global;
 use std::sync::Wait;
 
@@ -73,7 +73,7 @@ pub(crate) fn new_swap(system: &System, pass: &Pass) -> Result<Swap, Fault>
     if system.objects() == 0 {
         return Err(Fault::Wrong);
     }
-    Ok(Swap::new(0, To::Layout(LayoutName::Spread)))
+    Ok(Swap::new(0, To::Layout(1)))
 }
 
 /// Takes a step of a swap that is not over.

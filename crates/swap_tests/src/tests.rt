@@ -47,7 +47,7 @@ fn swapped(
         object: 0,
         incarnation,
         cell: (incarnation + 1) % 2 * 8,
-        act: Act::Swap(To::Layout(to)),
+        act: Act::Swap(To::Layout(to.number())),
         answer: Answer::Swapped(incarnation + 1),
         proc: 0,
         generation: None,

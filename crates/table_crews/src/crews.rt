@@ -3,7 +3,7 @@ ghost use Rattle.std.specs.Prelude.{◌≡◌, ◌+◌, ◌<◌, ◌≤◌, ◌^
 ghost use Rattle.std.specs.Option.{option_to_list};
 ghost use Rattle.gen_core.specs.State.{IsPlan};
 ghost use Rattle.k42_kinds.specs.declared.operation.KindName.TheVariants.{Counter};
-ghost use Rattle.co_any.specs.Layouts.{tag_named};
+ghost use Rattle.k42_kinds.specs.Operations.{layout_number};
 ghost use Rattle.k42_board.specs.Starting.{IsStart, IsStarted};
 ghost use Rattle.k42_board.specs.declared.keep.Keep.TheVariants as keeps;
 ghost use Rattle.k42_rule.specs.Finishing.{kept_in, logged_in};
@@ -48,7 +48,7 @@ pub fn start_counter(
     callers: Vec<u32>,
 ) -> Result<(Sys<AnyLayout>, Vec<Walk>), Memory>
     requires { IsPlan procs callers.items }
-    ensures started { IfOk result (λ made. IsStarted (record { kind = Counter; tag = tag_named layout } ∷ []) procs callers.items made.0 made.1.items) }
+    ensures started { IfOk result (λ made. IsStarted (record { kind = Counter; tag = layout_number layout } ∷ []) procs callers.items made.0 made.1.items) }
     ensures free { IfOk result (λ made. HoldNoCells made.0 made.1.items) }
     ensures callers { IfOk result (λ made. length made.0.callers ≡ length callers.items) }
     ensures keeps { IfOk result (λ made. made.0.keep ≡ keeps.All) }

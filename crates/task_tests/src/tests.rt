@@ -1,7 +1,7 @@
 use crate::tests::gates::{Counting, Listening};
 use crate::tests::steps::{steps_are, swap_before_a_call};
+use co_system::History;
 use k42_kinds::{Answer, Reply};
-use k42_runtime::History;
 use k42_workers::{FreeGate, asks_something, begin_run};
 use script_text::parse;
 use std::alloc::Global;

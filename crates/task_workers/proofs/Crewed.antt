@@ -12,7 +12,7 @@ use Rattle.k42_kinds.specs.declared.operation.Reply.{Reply}
 use Rattle.k42_kinds.specs.declared.entry.Entry.{Entry}
 use Rattle.script_text.specs.declared.script.Item.{Item}
 use Rattle.script_text.specs.declared.script.WorkerLines.{WorkerLines}
-use Rattle.k42_runtime.specs.Systems.{SystemPass, SystemSeen}
+use Rattle.co_system.specs.Systems.{SystemPass, SystemSeen}
 use Rattle.k42_workers.specs.Passes.{HasWorked, IsFresh, IsReady, MayWork}
 use Rattle.k42_workers.proofs.Filtered.{All-found}
 use Rattle.k42_workers.specs.Workers.{HasDoneLines}

@@ -8,7 +8,8 @@ use Rattle.script_text.specs.declared.script.CallLine.{CallLine}
 use Rattle.script_text.specs.declared.script.Item.{Item}
 use Rattle.script_text.specs.declared.script.Item.TheVariants.{Begin, End, Line}
 use Rattle.script_text.specs.declared.script.WorkerLines.{WorkerLines}
-use Rattle.k42_runtime.specs.Systems.{SystemPass, SystemSeen, IsAtRest, IsPassHere}
+use Rattle.co_system.specs.Systems.{SystemPass, SystemSeen}
+use Rattle.k42_runtime.specs.Systems.{IsAtRest, IsPassHere}
 use Rattle.k42_workers.specs.Lines.{Follows}
 use Rattle.k42_workers.specs.Passes.{GoesOnBy, HasWorked, IsBetween, IsReady, StaysAs, standing_of}
 use Rattle.k42_workers.specs.UnderWay.{IsAt}

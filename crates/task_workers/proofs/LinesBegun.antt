@@ -15,7 +15,7 @@ use Rattle.script_text.specs.declared.script.CallLine.{CallLine}
 use Rattle.script_text.specs.declared.script.Item.{Item}
 use Rattle.script_text.specs.declared.script.Item.TheVariants.{Line}
 use Rattle.k42_board.specs.declared.view.PassView.{PassView}
-use Rattle.k42_runtime.specs.Systems.{SystemPart, SystemSeen}
+use Rattle.co_system.specs.Systems.{SystemPart, SystemSeen}
 use Rattle.k42_workers.specs.Lines.{Standing}
 use Rattle.k42_workers.specs.Passes.{HasFew, IsReady, MayAnswer, MayAsk, MayAskLine, RestsFor, standing_of}
 use Rattle.k42_workers.specs.UnderWay.{IsAt, IsUnderWay}
@@ -73,7 +73,7 @@ lines_next : (task : WorkerTask) (line : CallLine) → slice_get task.items.now 
     → lines_behind task.done task.items.now ≡ suc (lines_behind (task.done + 1) task.items.now)
 lines_next task line next = ap (λ items. length (call_lines items)) (drop_at task.items.now task.done (Line line) next)
 
-module _ (system : SystemSeen) (task : WorkerTask) (ready : IsReady system.plan (worker_of task)) (line : CallLine)
+module _ (system : SystemSeen) (task : WorkerTask) (ready : IsReady system.plan (worker_of task)) (shaped : length system.sys.shapes ≡ length system.plan.objects) (line : CallLine)
     (next : slice_get task.items.now task.done ≡ Some (Line line)) where
   asked : MayAskLine system.plan line
   asked = line_at (MayAskLine system.plan) task.items.now task.done line (recursion_from_All (MayAskLine system.plan) (call_lines task.items.now) ready.asked) next
@@ -105,13 +105,16 @@ module _ (system : SystemSeen) (task : WorkerTask) (ready : IsReady system.plan 
         in_line (started line.object (Call op)) (refl, is) (refl, subst (MayAsk system.plan line.object) is asked, at.between)
         (omega arith)
     starts (Swap to) is =
+        let asks = subst (MayAsk system.plan line.object) is asked in
+        let there = asks.0 in
         in_line (started line.object (Swap to)) (refl, is) (
           refl,
+          asks.1,
           (
             refl,
             record {
               rests = subst (λ act. RestsFor act task.pass.view) is may.rests;
-              there = subst (MayAsk system.plan line.object) is asked;
+              there = omega (arith, shaped, there);
             },
           ),
         )

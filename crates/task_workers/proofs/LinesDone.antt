@@ -12,7 +12,7 @@ use Rattle.script_text.specs.Sound.{BlocksMatch, IsCall}
 use Rattle.script_text.specs.declared.script.CallLine.{CallLine}
 use Rattle.script_text.specs.declared.script.Item.TheVariants.{Line}
 use Rattle.script_text.specs.declared.script.WorkerLines.{WorkerLines}
-use Rattle.k42_runtime.specs.Systems.{SystemPass, SystemSeen}
+use Rattle.co_system.specs.Systems.{SystemPass, SystemSeen}
 use Rattle.k42_workers.specs.Lines.{Standing, IsLatest, GoesOn, IsTimed, AnswersLine, IsOpened}
 use Rattle.k42_workers.specs.Passes.{standing_of}
 use Rattle.k42_workers.specs.UnderWay.{IsAt, IsUnderWay}

@@ -5,7 +5,7 @@ use Rattle.std.proofs.lemmas.Option.{slice_get_within}
 use Rattle.k42_memory.specs.declared.Memory.{Memory as NoMemory}
 use Rattle.script_text.specs.declared.script.CallLine.{CallLine}
 use Rattle.script_text.specs.declared.script.Item.TheVariants.{Line}
-use Rattle.k42_runtime.specs.Systems.{SystemPass, SystemSeen}
+use Rattle.co_system.specs.Systems.{SystemPass, SystemSeen}
 use Rattle.k42_workers.specs.Passes.{HasFew}
 use Rattle.task_workers.specs.Steps.{HasStepped, behind_item, step_behind}
 use Rattle.task_workers.specs.Tasks.{IsOnWay, IsTask, has_ended}
@@ -19,13 +19,13 @@ use Rattle.task_workers.proofs.LinesBegun.{begun_way, may_try}
 use Rattle.task_workers.proofs.LinesDone.{still_on, still_going, nothing_drawn}
 use Rattle.task_workers.proofs.ItemsDone.{line_done, line_given_up, line_held}
 
-module _ (system : SystemSeen) (task : WorkerTask) (is_task : IsTask system task) (going : has_ended task.at ≡ false) (line : CallLine)
+module _ (system : SystemSeen) (shaped : length system.sys.shapes ≡ length system.plan.objects) (task : WorkerTask) (is_task : IsTask system task) (going : has_ended task.at ≡ false) (line : CallLine)
     (next : slice_get task.items.now task.done ≡ Some (Line line)) (b : WorkerTask) (begun : b ≡ record task { at = begun_at line task.at }) where
   way : IsOnWay system (begun_at line task.at) task
-  way = begun_way system task is_task.ready line next task.at going is_task.way
+  way = begun_way system task is_task.ready shaped line next task.at going is_task.way
 
   tries : HasFew task.pass.view × MayTry system (begun_at line task.at) task.pass × IsOfLine line (begun_at line task.at)
-  tries = may_try system task is_task.ready line next task.at going way
+  tries = may_try system task is_task.ready shaped line next task.at going way
 
   pub few_begun : HasFew b.pass.view
   few_begun = subst (λ (t : WorkerTask). HasFew t.pass.view) (sym begun) tries.0

@@ -2,10 +2,13 @@
 use Rattle.std.proofs.Common.{◌≡◌, ℕ, zero, suc, ◌+◌, ◌<◌, Bool, true, false, List, [], ◌∷◌, length, get_or, map, take, refl, sym, ap, ◌∙◌, subst, arith, add-one}
 use Rattle.std.specs.Prelude.{slice_set}
 use Rattle.std.proofs.lemmas.List.{length-map}
-use Rattle.k42_runtime.specs.Systems.{SystemSeen}
+use Rattle.co_system.specs.Systems.{SystemSeen}
 use Rattle.task_workers.specs.Rounds.{AreInRun, HaveEnded, IsInRun, Own, own_of}
 use Rattle.task_workers.specs.Tasks.{has_ended}
 use Rattle.task_workers.specs.declared.tasks.WorkerTask.{WorkerTask}
+
+pub not_both : {A : Type 0} → true ≡ false → A
+not_both e = cc
 
 module _ (system : SystemSeen) where
   -- what is said of a run in which no task was refused memory is not said where one was

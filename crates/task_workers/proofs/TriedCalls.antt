@@ -12,8 +12,10 @@ use Rattle.k42_board.specs.Seen.{Own}
 use Rattle.k42_board.specs.Words.{generation_word, local_word}
 use Rattle.k42_board.specs.declared.view.PassView.{PassView}
 use Rattle.k42_board.specs.declared.view.StepName.TheVariants as steps
-use Rattle.k42_runtime.specs.Calls.{CallSeen, HasCalled, HasNotCalled, HoldsUp, IsAsked}
-use Rattle.k42_runtime.specs.Systems.{SystemPart, SystemPass, SystemSeen, IsAtWork, IsPassHere, KeepsElse}
+use Rattle.co_system.specs.Systems.{IsAsked}
+use Rattle.k42_runtime.specs.Calls.{CallSeen, HasCalled, HasNotCalled, HoldsUp}
+use Rattle.co_system.specs.Systems.{SystemPart, SystemPass, SystemSeen}
+use Rattle.k42_runtime.specs.Systems.{IsAtWork, IsPassHere, KeepsElse}
 use Rattle.k42_runtime.specs.declared.calls.CallCause.{CallCause}
 use Rattle.k42_runtime.specs.declared.calls.CallCause.TheVariants as causes
 use Rattle.script_text.specs.Lawful.{IsNotGivenUp, deed_of}
@@ -65,7 +67,7 @@ same_left system old mid made new on keeps same here = record {
   proc = same.proc ∙ ap (λ (own : Own). own.turn.proc) keeps ∙ on.proc;
 }
 
-module _ (system : SystemSeen) (line : CallLine) (inside : Bool) (call : CallSeen) (old mid : SystemPass)
+module _ (system : SystemSeen) (line : CallLine) (inside : Bool) (call : CallSeen Op) (old mid : SystemPass)
     (of : (line.object ≡ call.object) × (line.act ≡ Call call.op))
     (opened : IsOpened (standing_of old.view) (standing_of mid.view)) (on : GoesOnAs old.view mid.view) (level : mid.view.graces ≡ old.view.graces)
     (stays : is_some old.view.turn.active ≡ true → mid ≡ old) where
@@ -93,12 +95,12 @@ module _ (system : SystemSeen) (line : CallLine) (inside : Bool) (call : CallSee
         graces = let steady = ap (λ (own : Own). own.graces) called.keeps in let last = same.graces in omega (arith, level, steady, last);
       }
 
-  pub call_held : (cause : CallCause) (after : CallSeen) (new : SystemPass) → after ≡ record call { ended = false } → IsAsked system.plan call.object call.op
+  pub call_held : (cause : CallCause) (after : CallSeen Op) (new : SystemPass) → after ≡ record call { ended = false } → IsAsked system.plan call.object call.op
       → (is_some old.view.turn.active ≡ false → HasOnlyEntered old.view mid.view) → HasNotCalled mid.view new.view → HoldsUp cause call.object mid.view new.view → IsAtWork new.view
       → IsHeldUp system line (HeldCall cause) (Calling call) (Calling after) old new
   call_held cause after new is asked entered none found works =
       let active : new.view.turn.active ≡ Some opened.generation = same_active mid.view new.view none.keeps ∙ opened.active in
-      subst (λ (c : CallSeen). IsHeldUp system line (HeldCall cause) (Calling call) (Calling c) old new) (sym is) (record {
+      subst (λ (c : CallSeen Op). IsHeldUp system line (HeldCall cause) (Calling call) (Calling c) old new) (sym is) (record {
         of = of;
         may = (refl, asked, record { grace = works.grace; swap = works.swap });
         held = held_since cause call.object old.view mid.view new.view on.number on.proc (meets_none old mid (is_some old.view.turn.active) refl stays entered) found;

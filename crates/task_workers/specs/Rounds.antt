@@ -3,7 +3,7 @@ use Rattle.std.specs.Prelude.{◌≡◌, ℕ, ◌+◌, Bool, true, false, List, 
 use Rattle.std.specs.List.{AllByRecursion}
 use Rattle.script_text.specs.declared.script.Item.{Item}
 use Rattle.script_text.specs.declared.script.WorkerLines.{WorkerLines}
-use Rattle.k42_runtime.specs.Systems.{SystemSeen}
+use Rattle.co_system.specs.Systems.{SystemSeen}
 use Rattle.task_workers.specs.Tasks.{IsTask, has_ended}
 use Rattle.task_workers.specs.Steps.{HasDoneAll}
 use Rattle.task_workers.specs.declared.tasks.WorkerTask.{WorkerTask}

@@ -3,7 +3,8 @@ use Rattle.std.specs.Prelude.{◌≡◌, ◌⊎◌, ℕ, ◌+◌, ◌<◌, Bool,
 use Rattle.script_text.specs.declared.script.CallLine.{CallLine}
 use Rattle.script_text.specs.declared.script.Item.{Item}
 use Rattle.script_text.specs.declared.script.Item.TheVariants.{Line}
-use Rattle.k42_runtime.specs.Systems.{SystemSeen, IsAtRest}
+use Rattle.co_system.specs.Systems.{SystemSeen}
+use Rattle.k42_runtime.specs.Systems.{IsAtRest}
 use Rattle.k42_workers.specs.Lines.{Follows}
 use Rattle.k42_workers.specs.Passes.{standing_of}
 use Rattle.k42_workers.specs.Workers.{HasDoneLines}

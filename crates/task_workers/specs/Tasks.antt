@@ -7,7 +7,8 @@ use Rattle.script_text.specs.declared.script.CallLine.{CallLine}
 use Rattle.script_text.specs.declared.script.Item.{Item}
 use Rattle.script_text.specs.declared.script.Item.TheVariants.{Line}
 use Rattle.script_text.specs.declared.script.WorkerLines.{WorkerLines}
-use Rattle.k42_runtime.specs.Systems.{SystemSeen, SystemPass, IsPassHere, IsAtRest}
+use Rattle.co_system.specs.Systems.{SystemSeen, SystemPass}
+use Rattle.k42_runtime.specs.Systems.{IsPassHere, IsAtRest}
 use Rattle.k42_workers.specs.Lines.{Standing, IsLatest}
 use Rattle.k42_workers.specs.Passes.{IsReady, IsFresh, standing_of}
 use Rattle.k42_workers.specs.UnderWay.{IsUnderWay, IsAt}

@@ -6,9 +6,10 @@ use Rattle.k42_kinds.specs.declared.entry.Act.{Act}
 use Rattle.k42_kinds.specs.declared.entry.Act.TheVariants.{Call, Swap}
 use Rattle.k42_board.specs.declared.view.PassView.{PassView}
 use Rattle.script_text.specs.declared.script.CallLine.{CallLine}
-use Rattle.k42_runtime.specs.Calls.{IsAsked, HoldsUp}
+use Rattle.co_system.specs.Systems.{IsAsked, MayLead, SystemSeen, SystemPass, SystemPart}
+use Rattle.k42_runtime.specs.Calls.{HoldsUp}
 use Rattle.k42_runtime.specs.Swaps.{IsAtStage, IsHeldUpBy, StepsWithoutMemory, graces_due, is_over}
-use Rattle.k42_runtime.specs.Systems.{SystemSeen, SystemPass, SystemPart, IsPassHere, IsAtRest}
+use Rattle.k42_runtime.specs.Systems.{IsPassHere, IsAtRest, live_in}
 use Rattle.k42_runtime.specs.declared.swaps.Stage.TheVariants.{New}
 use Rattle.k42_workers.specs.Lines.{AnswersLine, IsOpened}
 use Rattle.k42_workers.specs.Passes.{IsBetween, standing_of}
@@ -43,7 +44,8 @@ abbrev pub MayTry : SystemSeen → TaskAt → SystemPass → Type 0
 MayTry system (tasks.Calling call) pass =
     (call.ended ≡ false) × IsAsked system.plan call.object call.op × IsBetween pass.view
 MayTry system (tasks.Swapping swap) pass =
-    (is_over swap.stage ≡ false) × IsAtStage swap.stage (length system.plan.objects) swap pass
+    (is_over swap.stage ≡ false) × MayLead system.plan swap.object swap.to
+    × IsAtStage swap.stage system.sys.shapes swap pass
 MayTry system at pass = ⊥
 
 -- the same caller of the same system
@@ -55,7 +57,8 @@ pub record IsSame (system : SystemSeen) (old new : SystemPass) : Type 0 where
 -- What this step of the call or the swap found, which holds it up.
 abbrev pub HoldsUpLine : SystemSeen → TaskCause → TaskAt → SystemPass → SystemPass → Type 0
 HoldsUpLine system (causes.Call cause) (tasks.Calling call) old new = HoldsUp cause call.object old.view new.view
-HoldsUpLine system (causes.Swap cause) (tasks.Swapping swap) old new = IsHeldUpBy cause old.view new.view
+HoldsUpLine system (causes.Swap cause) (tasks.Swapping swap) old new =
+    IsHeldUpBy (live_in system.sys.shapes swap.object) cause old.view new.view
 HoldsUpLine system cause at old new = ⊥
 
 -- It has drawn nothing. A call has its activity.
@@ -67,7 +70,8 @@ StaysUnderWay at old new = ⊥
 -- Without memory nothing was begun, or the swap was given up, which its one entry tells.
 abbrev pub GivesUp : SystemSeen → TaskAt → SystemPass → SystemPass → Type 0
 GivesUp system (tasks.Calling call) old new = new.view.taker.mine ≡ old.view.taker.mine
-GivesUp system (tasks.Swapping swap) old new = StepsWithoutMemory swap.stage swap.object swap.to old.view new.view
+GivesUp system (tasks.Swapping swap) old new =
+    StepsWithoutMemory (live_in system.sys.shapes swap.object) swap.stage swap.object swap.to old.view new.view
 GivesUp system at old new = ⊥
 
 -- the line was answered, and nothing of it is under way

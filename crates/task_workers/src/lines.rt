@@ -1,6 +1,6 @@
 //! The line of a task: it begins, and is tried as far as it goes without waiting.
 ghost use Rattle.std.specs.Prelude.{◌≡◌, Bool, false, length};
-ghost use Rattle.k42_runtime.specs.Calls.{IsAsked};
+ghost use Rattle.co_system.specs.Systems.{IsAsked, MayLead};
 ghost use Rattle.k42_runtime.specs.Swaps.{IsAtStage, is_over};
 ghost use Rattle.k42_runtime.specs.Systems.{IsPassHere};
 ghost use Rattle.k42_workers.specs.Passes.{IsBetween, HasFew};
@@ -9,9 +9,9 @@ ghost use Rattle.task_workers.specs.Tries.{IsOfLine, IsSame, HasTried, MayTry, s
 ghost use Rattle.task_workers.specs.declared.tasks.TaskAt.TheVariants as TaskAt;
 
 use crate::tasks::{TaskAt, TaskCause};
+use co_system::{Call, CallStep, Pass, Step, Swap, System};
 use k42_kinds::Act;
 use k42_memory::Memory;
-use k42_runtime::{Call, CallStep, Pass, Step, Swap, System};
 use k42_workers::{leave_open, leave_outside, open};
 use script_text::CallLine;
 use std::alloc::Global;
@@ -67,7 +67,8 @@ fn try_swap(
 ) -> Result<Option<TaskCause>, Memory>
     requires here { IsPassHere system.now pass.old }
     requires few { HasFew pass.old.view }
-    requires stage { IsAtStage swap.old.stage (length system.now.plan.objects) swap.old pass.old }
+    requires leads { MayLead system.now.plan swap.old.object swap.old.to }
+    requires stage { IsAtStage swap.old.stage system.now.sys.shapes swap.old pass.old }
     requires going { is_over swap.old.stage ≡ false }
     ensures same { IsSame system.now pass.old pass.new }
     ensures tried { (line : CallLine) (inside : Bool) → IsOfLine line (TaskAt.Swapping swap.old)

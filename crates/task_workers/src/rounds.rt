@@ -4,8 +4,8 @@ ghost use Rattle.task_workers.specs.Rounds.{IsInRun, AreInRun, HaveEnded, own_of
 ghost use Rattle.task_workers.specs.Tasks.{has_ended};
 
 use crate::tasks::{TaskStep, WorkerTask};
+use co_system::System;
 use k42_memory::Memory;
-use k42_runtime::System;
 use k42_workers::Gate;
 use std::alloc::Global;
 use std::sync::Wait;

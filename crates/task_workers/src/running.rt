@@ -11,8 +11,8 @@ ghost use Rattle.task_workers.specs.Rounds.{AreInRun, HaveEnded, own_of, owns_fr
 
 use crate::rounds::run_rounds;
 use crate::tasks::WorkerTask;
+use co_system::{History, Pass, System};
 use k42_memory::Memory;
-use k42_runtime::{History, Pass, System};
 use k42_workers::{Gate, asks_something, begin_run, end_run, idle_run};
 use script_text::{Script, WorkerLines};
 use std::alloc::Global;

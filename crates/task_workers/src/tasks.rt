@@ -1,7 +1,8 @@
 //! A worker as a task.
 ghost use Rattle.std.specs.Prelude.{◌≡◌, ◌↔◌, ◌+◌, ◌<◌, true, false, length, Some, slice_get};
 ghost use Rattle.script_text.specs.declared.script.Item.TheVariants as Item;
-ghost use Rattle.k42_runtime.specs.Systems.{SystemSeen, IsPassHere, IsAtRest};
+ghost use Rattle.co_system.specs.Systems.{SystemSeen};
+ghost use Rattle.k42_runtime.specs.Systems.{IsPassHere, IsAtRest};
 ghost use Rattle.task_workers.specs.Steps.{HasStepped, behind_item, step_behind};
 ghost use Rattle.task_workers.specs.Tasks.{IsTask, MayBegin, has_ended};
 ghost use Rattle.task_workers.specs.Tries.{begun_at};
@@ -9,8 +10,8 @@ ghost use Rattle.task_workers.specs.declared.tasks.TaskAt.TheVariants as TaskAt;
 ghost use Rattle.task_workers.specs.declared.tasks.TaskStep.TheVariants as TaskStep;
 
 use crate::lines::{start, try_line};
+use co_system::{Call, CallCause, Cause, Pass, Swap, System};
 use k42_memory::Memory;
-use k42_runtime::{Call, CallCause, Cause, Pass, Swap, System};
 use k42_workers::{Gate, leave_open};
 use script_text::{CallLine, Item};
 use std::alloc::Global;
@@ -127,6 +128,8 @@ impl<'a> WorkerTask<'a> {
         requires next { slice_get self.old.items.now self.old.done ≡ Some (Item.Line line.now) }
         ensures { HasStepped system.now result self.old self.new }
     {
+        // So that the table has each object of the plan.
+        let _objects = system.objects();
         self.begin(line, gate);
         match try_line(alloc, system, &mut self.pass, &mut self.at, self.inside) {
             Ok(None) => {

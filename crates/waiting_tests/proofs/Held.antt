@@ -9,7 +9,7 @@ use Rattle.k42_board.specs.Seen.{inside_in}
 use Rattle.k42_board.specs.Taking.{MayLock}
 use Rattle.k42_board.specs.declared.view.Inside.{Inside}
 use Rattle.k42_board.specs.declared.view.PassView.{PassView}
-use Rattle.k42_runtime.specs.Systems.{SystemPart}
+use Rattle.co_system.specs.Systems.{SystemPart}
 use Rattle.k42_kinds.specs.declared.operation.Op.{Op}
 use Rattle.k42_kinds.specs.declared.operation.Reply.{Reply}
 

@@ -1,21 +1,24 @@
 -- Calls and swaps between two of their steps.
-use Rattle.std.specs.Prelude.{◌≡◌, ℕ, true, List, [], length, is_some}
+use Rattle.std.specs.Prelude.{◌≡◌, ℕ, true, List, [], is_some}
 use Rattle.gen_core.specs.Events as graces
 use Rattle.phase_core.specs.Stages as swaps
+use Rattle.k42_kinds.specs.declared.operation.Op.{Op}
 use Rattle.k42_board.specs.Phases.{is_served}
 use Rattle.k42_board.specs.Seen.{IsPassOf}
-use Rattle.k42_runtime.specs.Calls.{CallSeen, IsAsked}
+use Rattle.k42_runtime.specs.Calls.{CallSeen}
 use Rattle.k42_runtime.specs.Swaps.{SwapSeen, IsAtStage}
-use Rattle.k42_runtime.specs.Systems.{SystemSeen, IsPassHere, SystemPass}
+use Rattle.co_system.specs.Systems.{IsAsked, MayLead, SystemSeen, SystemPass}
+use Rattle.k42_runtime.specs.Systems.{IsPassHere}
 
 -- the call asks an object of the system for what it takes
-abbrev pub IsCallOf : SystemSeen → CallSeen → Type 0
+abbrev pub IsCallOf : SystemSeen → CallSeen Op → Type 0
 IsCallOf system call = IsAsked system.plan call.object call.op
 
--- the pass is one of the system, and as the last step of the swap left it
+-- the swap leads where it may, and the pass is one of the system, and as the last step of the swap left it
 pub record IsSwapping (system : SystemSeen) (swap : SwapSeen) (pass : SystemPass) : Type 0 where
   pub here : IsPassHere system pass
-  pub stage : IsAtStage swap.stage (length system.plan.objects) swap pass
+  pub leads : MayLead system.plan swap.object swap.to
+  pub stage : IsAtStage swap.stage system.sys.shapes swap pass
 
 -- it is in an activity, and its call is inside a row; these are the cells that it holds, with their content in place
 pub record IsInRow (system : SystemSeen) (cells : List ℕ) (pass : SystemPass) : Type 0 where

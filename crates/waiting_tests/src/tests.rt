@@ -4,7 +4,7 @@ use crate::tests::held::{hold, see_added, wait_for_cell};
 use crate::tests::shut::{be_let_in, be_shut_out, be_waited_for};
 use crate::tests::steps::{call_to, come_in, go_home, swap_to};
 use crate::tests::together::{add_at_a_held_cell, get_at_a_shut_object};
-use k42_kinds::{Answer, Entry, LayoutName, Op, Reply};
+use k42_kinds::{Answer, Entry, Op, Reply};
 
 mod crews;
 mod held;
@@ -35,7 +35,7 @@ fn a_call_at_a_shut_object_is_held_up_until_it_is_open(rt: HostRuntime) {
         mut one,
         mut two,
     } = crew;
-    let mut swap = swap_to(&rt, &system, &one, 0, LayoutName::Shared);
+    let mut swap = swap_to(&rt, &system, &one, 0, 0);
     be_waited_for(
         &rt, alloc, &system, &mut zero, &mut one, &mut two, &mut swap,
     );
@@ -93,7 +93,7 @@ fn a_call_waits_for_the_swap_that_keeps_its_object_shut(rt: HostRuntime) {
         mut one,
         mut two,
     } = crew;
-    let mut swap = swap_to(&rt, &system, &one, 0, LayoutName::Shared);
+    let mut swap = swap_to(&rt, &system, &one, 0, 0);
     be_waited_for(
         &rt, alloc, &system, &mut zero, &mut one, &mut two, &mut swap,
     );

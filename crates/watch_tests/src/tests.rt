@@ -7,8 +7,8 @@ ghost use Rattle.co_any.specs.Layouts.{whole_of};
 
 use co_any::{AnyLayout, AnyPart};
 use k42_kinds::{
-    Act, AnyState, Kind, KindName, Layout, LayoutName, Name, Op, Reach, Reply, Text, To, empty_row,
-    kind_of, step_row,
+    Act, AnyState, Kind, KindName, Layout, Name, Op, Reach, Reply, Text, To, empty_row, kind_of,
+    step_row,
 };
 use k42_stamp::{draw_keeps, hand_begins, merged_is_legal};
 use k42_watch::{Layer, Watch, WatchPart};
@@ -147,8 +147,8 @@ fn a_watched_object_keeps_its_figure_across_layouts(rt: HostRuntime) {
 #[test]
 fn a_layer_is_asked_for_by_its_act(rt: HostRuntime) {
     let cases = [
-        (0, Layer::Keep, To::Layout(LayoutName::Shared)),
-        (1, Layer::Keep, To::Layout(LayoutName::Spread)),
+        (0, Layer::Keep, To::Layout(0)),
+        (1, Layer::Keep, To::Layout(1)),
         (0, Layer::Place, To::Watch),
         (1, Layer::Place, To::Watch),
         (1, Layer::Take, To::Unwatch),

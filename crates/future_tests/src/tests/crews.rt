@@ -3,9 +3,9 @@ ghost use Rattle.std.specs.Prelude.{◌≡◌};
 ghost use Rattle.k42_board.specs.declared.keep.Keep.TheVariants.{All};
 ghost use Rattle.k42_crews.specs.Ready.{IsFree};
 
+use co_system::{History, Keep, Pass, Plan, System, kept_as};
 use k42_crews::{close, last, start};
 use k42_kinds::{KindName, LayoutName};
-use k42_runtime::{History, Keep, ObjectPlan, Pass, Plan, System};
 use std::alloc::Global;
 use std::process::Abort;
 
@@ -24,10 +24,7 @@ pub(super) fn counters(rt: &impl Abort, alloc: Global, objects: u32) -> (System,
     ensures one { IsFree result.0 result.1.one }
     ensures two { IsFree result.0 result.1.two }
 {
-    let counter = ObjectPlan {
-        kind: KindName::Counter,
-        layout: LayoutName::Shared,
-    };
+    let counter = kept_as(KindName::Counter, LayoutName::Shared);
     let objects = vec![in alloc; counter; objects as usize].expect(rt, "memory");
     let homes = vec![in alloc; 0, 0, 0].expect(rt, "memory");
     let plan = Plan::new(1, objects, homes, Keep::All).expect(rt, "a plan");

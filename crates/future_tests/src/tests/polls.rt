@@ -1,16 +1,16 @@
 //! Swaps that are polled by hand, and by an executor.
 ghost use Rattle.std.specs.Prelude.{◌≡◌, length, IfOk, IsSomeAnd};
+ghost use Rattle.co_system.specs.Systems.{MayLead};
 ghost use Rattle.k42_crews.specs.Ready.{IsFree};
 ghost use Rattle.k42_runtime.specs.Swaps.{MayStart, HasEnded};
 ghost use Rattle.k42_runtime.specs.Systems.{IsPassHere};
 ghost use Rattle.swap_future.specs.Polling.{IsGoing};
 
+use co_system::{Cause, Pass, Swap, System, To};
 use futures::Future;
 use futures::executor::block_on;
 use futures::future::join;
 use futures::task::{Doorbell, Poll, Queue};
-use k42_kinds::LayoutName;
-use k42_runtime::{Cause, Pass, Swap, System, To};
 use std::alloc::{AllocGlobal, Global};
 use std::io;
 use std::process::Abort;
@@ -31,7 +31,7 @@ pub(super) fn swap_with<'a>(
     ensures going { IsSomeAnd result.pass (IsGoing system.now result.swap) }
 {
     assert!(rt; object < system.objects());
-    SwapFuture::new(alloc, system, pass, object, To::Layout(LayoutName::Spread))
+    SwapFuture::new(alloc, system, pass, object, To::Layout(1))
 }
 
 /// A poll of the swap, which is held up so.
@@ -91,6 +91,7 @@ pub(super) fn swapped<R: Abort + Wait + RandomSource + AllocGlobal>(
     to: To,
 ) -> SwapEnd
     requires free { IsFree system.now pass }
+    requires leads { MayLead system.now.plan object to }
     ensures ended { HasEnded system.now object to result.result pass result.pass }
     ensures free { IsFree system.now result.pass }
 {

@@ -4,7 +4,7 @@ ghost use Rattle.k42_crews.specs.Ready.{IsFree, IsIn};
 ghost use Rattle.k42_runtime.specs.Swaps.{is_over};
 ghost use Rattle.swap_future.specs.Polling.{IsGoing};
 
-use k42_runtime::{Pass, Step, Swap, Swapped, System};
+use co_system::{Pass, Step, Swap, Swapped, System};
 use std::alloc::Global;
 use std::process::Abort;
 

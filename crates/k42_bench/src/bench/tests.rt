@@ -1,9 +1,9 @@
 //! What is done where no entry is kept.
 use crate::bench::{Done, run};
 use crate::load::{Load, Ops};
+use co_system::Keep;
 use k42_kinds::{KindName, LayoutName};
 use k42_memory::Memory;
-use k42_runtime::Keep;
 
 #[test]
 fn without_entries_each_thread_makes_its_calls_and_the_object_has_what_they_left(

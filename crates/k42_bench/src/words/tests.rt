@@ -1,6 +1,6 @@
 //! Which words are numbers, and what the last word says.
 use crate::words::{keep_and_block_of, number_of};
-use k42_runtime::Keep;
+use co_system::Keep;
 
 #[test]
 fn a_number_has_no_sign_and_no_leading_zero(rt: HostRuntime) {

@@ -8,7 +8,7 @@ ghost use Rattle.k42_kinds.specs.declared.operation.Op.TheVariants as Op;
 
 use super::{number_of, status};
 use crate::held::K42Pass;
-use k42_runtime::Op;
+use co_system::Op;
 use std::alloc::Global;
 
 /// Adds to a counter.

@@ -10,7 +10,7 @@ ghost use Rattle.k42_kinds.specs.declared.operation.Op.TheVariants as Op;
 use super::{number_of, status};
 use crate::held::K42Pass;
 use crate::spelling::{bind_spelled, find_spelled, unbind_spelled};
-use k42_runtime::Op;
+use co_system::Op;
 use std::alloc::Global;
 
 /// Binds a key to a number.

@@ -12,7 +12,7 @@ use crate::coding::call_code;
 use crate::held::K42Pass;
 use crate::plain::{K42Text, plain_text};
 use crate::spelling::{read_spelled, write_spelled};
-use k42_runtime::{Op, Reply};
+use co_system::{Op, Reply};
 use std::alloc::Global;
 
 /// Writes a page.

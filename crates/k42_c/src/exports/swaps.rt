@@ -1,7 +1,8 @@
 //! Swaps and reclaims.
-ghost use Rattle.std.specs.Prelude.{◌≡◌, Some};
+ghost use Rattle.std.specs.Prelude.{◌≡◌, Some, IfSome};
 ghost use Rattle.k42_c.specs.Codes.{to_named};
 ghost use Rattle.k42_c.specs.Exports.{TellsFreed, TellsSwapping};
+ghost use Rattle.k42_c.specs.Going.{Leads};
 ghost use Rattle.k42_c.specs.Handles.{seat_of};
 ghost use Rattle.k42_c.specs.Swapping.{HasGoneOn, HasSwapped};
 ghost use Rattle.k42_kinds.specs.declared.entry.To.TheVariants as To;
@@ -13,7 +14,7 @@ use crate::plain::{K42Swapping, plain_progress};
 use crate::reclaiming::{Freeing, reclaim};
 use crate::refusal::Refusal;
 use crate::swapping::{Progress, go_on, swap};
-use k42_runtime::To;
+use co_system::To;
 use std::alloc::Global;
 
 /// Writes how far a swap is, and tells its status.
@@ -37,6 +38,7 @@ fn begun(
     to: Option<To>,
     place: &mut K42Swapping,
 ) -> u32
+    requires { IfSome to Leads }
     ensures { TellsSwapping (HasSwapped object to (seat_of pass.old) (seat_of pass.new)) place.old place.new result }
 {
     let Some(mut held) = take(alloc, pass) else {

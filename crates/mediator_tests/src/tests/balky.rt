@@ -4,11 +4,11 @@ ghost use Rattle.std.proofs.Common.{arith};
 ghost use Rattle.k42_shapes.specs.Shapes.{shared_and_spread};
 ghost use Rattle.k42_kinds.specs.declared.operation.KindName.TheVariants as kinds;
 ghost use Rattle.k42_kinds.specs.Objects.{plain_object};
-ghost use Rattle.co_any.specs.Layouts.{ways_of, whole_of, serves_of, admitted_of, act_of};
+ghost use Rattle.co_any.specs.Layouts.{ways_of, whole_of, serves_of, admitted_of, act_of, LeadsAny};
 ghost use Rattle.co_any.specs.AnyLaws.{any_steps, any_steps_all, any_reaches, any_stands, any_begins, any_imports, any_ends, any_admits, any_swaps, any_asks, any_agrees};
 
 use co_any::{AnyLayout, AnyPart, AnyState};
-use k42_kinds::{Act, Kind, KindName, Layout, Op, Reach, Reply};
+use k42_kinds::{Act, Kind, KindName, Layout, Op, Reach, Reply, To};
 use k42_memory::Memory;
 use k42_shapes::Shape;
 use std::alloc::Global;
@@ -46,6 +46,10 @@ impl Kind for Balky {
         self.counter().empty(alloc)
     }
 
+    fn takes(&self, op: &Op) -> bool {
+        self.counter().takes(op)
+    }
+
     fn step(&self, alloc: Global, state: &mut AnyState, op: &Op) -> Result<Reply, Memory> {
         self.counter().step(alloc, state, op)
     }
@@ -70,6 +74,8 @@ impl Layout for Balky {
 
     ghost act_of = { λ layout. act_of layout.tag };
 
+    ghost leads = { λ _. LeadsAny };
+
     fn tag(&self) -> u32 {
         self.tag
     }
@@ -85,6 +91,13 @@ impl Layout for Balky {
     fn with_tag(&self, tag: u32) -> Self {
         Balky {
             tag,
+            refuse: self.refuse,
+        }
+    }
+
+    fn target(&self, to: To, present: u32) -> Self {
+        Balky {
+            tag: self.counter().target(to, present).tag,
             refuse: self.refuse,
         }
     }

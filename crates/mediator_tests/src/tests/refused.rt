@@ -8,7 +8,7 @@ use crate::tests::calls::{
 };
 use crate::tests::crews::{drawn, finish, start};
 use crate::tests::phases::{give_up, hand_nothing_on, swap, take_over};
-use k42_kinds::{Act, Answer, Entry, KindName, Layout, LayoutName, Op, Reply, To, kind_of};
+use k42_kinds::{Act, Answer, Entry, KindName, Layout, Op, Reply, To, kind_of};
 use k42_mediator::Phase;
 use k42_rule::{Pass, Sys};
 use std::alloc::Global;
@@ -89,7 +89,7 @@ fn swapped(stamp: u64, index: u64, cell: u32, answer: Answer<Reply>) -> Entry<Op
         object: 0,
         incarnation: 0,
         cell,
-        act: Act::Swap(To::Layout(LayoutName::Shared)),
+        act: Act::Swap(To::Layout(0)),
         answer,
         proc: 0,
         generation: None,

@@ -1,12 +1,13 @@
 //! What `lines_of` and `print` require, tested.
 ghost use Rattle.std.specs.Prelude.{◌≡◌, All, IsTrue};
 ghost use Rattle.record_text.specs.Spelling.{Ends, HasSpelling, HasGeneration, IsOfVersion, IsVersion, HasText};
+ghost use Rattle.script_text.specs.Acts.{HasWord};
 ghost use Rattle.script_text.specs.Sound.{NamesPage, IsActOn};
 ghost use Rattle.record_text.specs.Histories.{HasLine};
 ghost use Rattle.record_text.specs.Printer.LineNumbers.{HasNumber};
 
 use k42_items::Items;
-use k42_kinds::{Act, Answer, Entry, KindName, Op, Reply, is_seen, kind_of};
+use k42_kinds::{Act, Answer, Entry, KindName, Op, Reply, To, is_seen, kind_of};
 use k42_limits::PAGES;
 use record_text::{Record, RecordLine, numbers_of_all};
 use script_text::Script;
@@ -22,12 +23,21 @@ fn names_page(op: &Op) -> bool
     }
 }
 
+fn has_word(to: &To) -> bool
+    ensures { IsTrue result → HasWord to.now }
+{
+    match to {
+        To::Layout(number) => *number < 2,
+        To::Dead | To::Watch | To::Unwatch => true,
+    }
+}
+
 fn is_act_on(kind: KindName, act: &Act<Op>) -> bool
     ensures { IsTrue result → IsActOn kind act.now }
 {
     match act {
         Act::Call(op) => (is_seen(op) || kind_of(op) == Some(kind)) && names_page(op),
-        Act::Swap(_) => true,
+        Act::Swap(to) => has_word(to),
     }
 }
 

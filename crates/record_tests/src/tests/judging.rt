@@ -134,7 +134,7 @@ fn expect(
     assert!(rt; found == due, "{}", shows);
 }
 
-const SPREAD: Act<Op> = Act::Swap(To::Layout(LayoutName::Spread));
+const SPREAD: Act<Op> = Act::Swap(To::Layout(1));
 
 const THREE: [Asked; 3] = [(0, 4, Act::Call(Op::Add(5))), (0, 5, SPREAD), (0, 6, GET)];
 

@@ -1,13 +1,11 @@
 -- An act that is read is spelled so, and what is spelled so is read.
-use Rattle.std.proofs.Common.{◌≡◌, ℕ, ◌<◌, Bool, true, false, IsTrue, cond, ◌||◌, List, [], ◌∷◌, ◌++◌, length, get_or, refl, sym, ap, subst, ◌∙◌, arith, inl, inr}
+use Rattle.std.proofs.Common.{◌≡◌, ℕ, zero, suc, ◌<◌, Bool, true, false, IsTrue, cond, ◌||◌, List, [], ◌∷◌, ◌++◌, length, get_or, refl, sym, ap, subst, ◌∙◌, arith, inl, inr}
 use Rattle.std.specs.Prelude.{Option, Some, None, codes, option_map, slice_get}
 use Rattle.std.specs.Str.{bytes_eq}
 use Rattle.std.proofs.lemmas.Option.{none-some, same_Some, slice_get_within, slice_get_cases, slice_get-get_or, slice_get-map}
 use Rattle.k42_kinds.specs.Watched.{watched_object}
 use Rattle.k42_kinds.specs.Words.{is_name}
 use Rattle.k42_kinds.specs.declared.operation.KindName.{KindName}
-use Rattle.k42_kinds.specs.declared.operation.LayoutName.{LayoutName}
-use Rattle.k42_kinds.specs.declared.operation.LayoutName.TheVariants.{Shared, Spread}
 use Rattle.k42_kinds.specs.declared.operation.Op.{Op}
 use Rattle.k42_kinds.specs.declared.entry.Act.{Act}
 use Rattle.k42_kinds.specs.declared.entry.Act.TheVariants.{Call, Swap}
@@ -18,7 +16,7 @@ use Rattle.script_text.specs.Sound.{IsActOn, NamesPage, HasDistinctNames, IsFree
 use Rattle.script_text.specs.declared.script.ObjectLine.{ObjectLine}
 use Rattle.script_text.specs.declared.script.WorkerLines.{WorkerLines}
 use Rattle.script_text.specs.declared.script.Script.{Script}
-use Rattle.record_text.specs.Acts.{operation_word, argument_tokens, layout_word, act_tokens}
+use Rattle.record_text.specs.Acts.{operation_word, argument_tokens, numbered_layout_word, HasWord, act_tokens}
 use Rattle.record_text.specs.Texts.{worker_name, object_name}
 use Rattle.record_text.specs.Values.{FitsOperation, FitsAct}
 use Rattle.record_text.specs.Reader.Parts.{Found, ◌>>=◌, spelled_at}
@@ -62,42 +60,43 @@ pub record TakesAct (script : Script) (tokens : List (List ℕ)) (asks : Asked) 
   pub is_on : IsActOn kind asks.act
   pub fits : FitsAct asks.act
 
-layout_takes : (name word : List ℕ) (to : To) → layout_of word ≡ Some to → codes "swap" ∷ name ∷ word ∷ [] ≡ act_tokens name (Swap to)
+layout_takes : (name word : List ℕ) (to : To) → layout_of word ≡ Some to → (codes "swap" ∷ name ∷ word ∷ [] ≡ act_tokens name (Swap to)) × HasWord to
 layout_takes name word to e =
     let behind : List ℕ → List (List ℕ) = λ word. codes "swap" ∷ name ∷ word ∷ [] in
-    let spread : Option To = cond (bytes_eq word (codes "spread")) (Some (Layout Spread)) None in
-    elim (word_or word (codes "shared") (Some (Layout Shared)) spread to e) [
-      | inl this ↦ ap behind this.0 ∙ ap (λ (t : To). act_tokens name (Swap t)) (same_Some (Layout Shared) to this.1)
-      | inr more ↦ elim (word_or word (codes "spread") (Some (Layout Spread)) None to more) [
-        | inl this ↦ ap behind this.0 ∙ ap (λ (t : To). act_tokens name (Swap t)) (same_Some (Layout Spread) to this.1)
+    let spread : Option To = cond (bytes_eq word (codes "spread")) (Some (Layout 1)) None in
+    elim (word_or word (codes "shared") (Some (Layout 0)) spread to e) [
+      | inl this ↦ (ap behind this.0 ∙ ap (λ (t : To). act_tokens name (Swap t)) (same_Some (Layout 0) to this.1), subst HasWord (same_Some (Layout 0) to this.1) (omega arith))
+      | inr more ↦ elim (word_or word (codes "spread") (Some (Layout 1)) None to more) [
+        | inl this ↦ (ap behind this.0 ∙ ap (λ (t : To). act_tokens name (Swap t)) (same_Some (Layout 1) to this.1), subst HasWord (same_Some (Layout 1) to this.1) (omega arith))
         | inr none ↦ absurd cc
       ]
     ]
 
--- behind this word and an object's name, these tokens are a swap to what is read of them
+-- behind this word and an object's name, these tokens are a swap to what is read of them, which has a word
 abbrev Says : List ℕ → (List (List ℕ) → Found To) → Type 0
 Says word to_at =
-    (name : List ℕ) (tokens : List (List ℕ)) (to : To) (rest : List (List ℕ)) → to_at tokens ≡ Some (to, rest) → word ∷ name ∷ tokens ≡ act_tokens name (Swap to) ++ rest
+    (name : List ℕ) (tokens : List (List ℕ)) (to : To) (rest : List (List ℕ)) → to_at tokens ≡ Some (to, rest) → (word ∷ name ∷ tokens ≡ act_tokens name (Swap to) ++ rest) × HasWord to
 
 swap_says : Says (codes "swap") layout_at
 swap_says name tokens to rest e =
     let word = spelled_takes layout_of tokens to rest e in
-    ap (λ (left : List (List ℕ)). codes "swap" ∷ name ∷ left) word.first ∙ ap (λ (words : List (List ℕ)). words ++ rest) (layout_takes name word.token to word.means)
+    let takes = layout_takes name word.token to word.means in
+    (ap (λ (left : List (List ℕ)). codes "swap" ∷ name ∷ left) word.first ∙ ap (λ (words : List (List ℕ)). words ++ rest) takes.0, takes.1)
 
 -- the word alone says what such a swap is to
-named_says : (word : List ℕ) (own : To) → ((name : List ℕ) → act_tokens name (Swap own) ≡ word ∷ name ∷ []) → Says word (said_before own)
-named_says word own spelled name tokens to rest e =
+named_says : (word : List ℕ) (own : To) → HasWord own → ((name : List ℕ) → act_tokens name (Swap own) ≡ word ∷ name ∷ []) → Says word (said_before own)
+named_says word own named spelled name tokens to rest e =
     let same = pair_is own to tokens rest e in
-    ap (λ (left : List (List ℕ)). word ∷ name ∷ left) same.1 ∙ ap (λ (words : List (List ℕ)). words ++ rest) (sym (spelled name)) ∙ ap (λ (t : To). act_tokens name (Swap t) ++ rest) same.0
+    (ap (λ (left : List (List ℕ)). word ∷ name ∷ left) same.1 ∙ ap (λ (words : List (List ℕ)). words ++ rest) (sym (spelled name)) ∙ ap (λ (t : To). act_tokens name (Swap t) ++ rest) same.0, subst HasWord same.0 named)
 
 destroy_says : Says (codes "destroy") (said_before Dead)
-destroy_says = named_says (codes "destroy") Dead (λ name. refl)
+destroy_says = named_says (codes "destroy") Dead tt (λ name. refl)
 
 watch_says : Says (codes "watch") (said_before Watch)
-watch_says = named_says (codes "watch") Watch (λ name. refl)
+watch_says = named_says (codes "watch") Watch tt (λ name. refl)
 
 unwatch_says : Says (codes "unwatch") (said_before Unwatch)
-unwatch_says = named_says (codes "unwatch") Unwatch (λ name. refl)
+unwatch_says = named_says (codes "unwatch") Unwatch tt (λ name. refl)
 
 swap_takes : (script : Script) (word : List ℕ) (to_at : List (List ℕ) → Found To) → Says word to_at → (tokens : List (List ℕ)) (asks : Asked) (rest : List (List ℕ)) → swap_at script to_at tokens ≡ Some (asks, rest) → TakesAct script (word ∷ tokens) asks rest
 unfolding swap_at
@@ -109,9 +108,9 @@ swap_takes script word to_at says tokens asks rest e =
     let same = pair_is (asked first.0.0 (Swap second.0.0)) asks second.0.1 rest second.2 in
     let said = says (object_name script first.0.0) first.0.1 second.0.0 rest (second.1 ∙ ap (λ (left : List (List ℕ)). Some (second.0.0, left)) same.1) in
     let behind : word ∷ tokens ≡ act_tokens (object_name script first.0.0) (Swap second.0.0) ++ rest =
-    ap (λ (left : List (List ℕ)). word ∷ left) (name.first ∙ ap (λ (token : List ℕ). token ∷ first.0.1) object.named) ∙ said in
+    ap (λ (left : List (List ℕ)). word ∷ left) (name.first ∙ ap (λ (token : List ℕ). token ∷ first.0.1) object.named) ∙ said.0 in
     subst (λ (a : Asked). TakesAct script (word ∷ tokens) a rest) same.0
-    (record { spelled = behind; kind = object.line.kind; of_object = object.kind; is_on = tt; fits = tt })
+    (record { spelled = behind; kind = object.line.kind; of_object = object.kind; is_on = said.1; fits = tt })
 
 call_takes : (script : Script) (name : List ℕ) (tokens : List (List ℕ)) (asks : Asked) (rest : List (List ℕ)) → call_at script name tokens ≡ Some (asks, rest) → TakesAct script (name ∷ tokens) asks rest
 unfolding call_at
@@ -157,9 +156,10 @@ act_takes script (word ∷ tokens) asks rest e = asked_takes script word tokens 
 
 -- ---- what is spelled is read
 
-layout_again : (layout : LayoutName) → layout_of (layout_word layout) ≡ Some (Layout layout)
-layout_again Shared = refl
-layout_again Spread = refl
+layout_again : (number : ℕ) → number < 2 → layout_of (numbered_layout_word number) ≡ Some (Layout number)
+layout_again zero named = refl
+layout_again (suc zero) named = refl
+layout_again (suc (suc number)) named = absurd (omega (arith, named))
 
 -- a declared name is none of the words that begin a swap
 record IsNoAct (name : List ℕ) : Type 0 where
@@ -241,8 +241,8 @@ act_again script object kind (Call op) rest names e is_on fits =
     let found = object_again script object kind names e in
     let named : IsNoAct (object_name script object) = rw is.named none in
     rw (named.swap, named.destroy, named.watch, named.unwatch) (call_again script object kind op rest found e is_on.0 is_on.1 fits)
-act_again script object kind (Swap (Layout layout)) rest names e is_on fits =
-    swap_again script object layout_at (Layout layout) (layout_word layout ∷ rest) rest (object_again script object kind names e) (spelled_again layout_of (layout_word layout) (Layout layout) rest (layout_again layout))
+act_again script object kind (Swap (Layout number)) rest names e is_on fits =
+    swap_again script object layout_at (Layout number) (numbered_layout_word number ∷ rest) rest (object_again script object kind names e) (spelled_again layout_of (numbered_layout_word number) (Layout number) rest (layout_again number is_on))
 act_again script object kind (Swap Dead) rest names e is_on fits = swap_again script object (said_before Dead) Dead rest rest (object_again script object kind names e) refl
 act_again script object kind (Swap Watch) rest names e is_on fits = swap_again script object (said_before Watch) Watch rest rest (object_again script object kind names e) refl
 act_again script object kind (Swap Unwatch) rest names e is_on fits = swap_again script object (said_before Unwatch) Unwatch rest rest (object_again script object kind names e) refl

@@ -1,12 +1,10 @@
 -- The tokens of a record's lines have neither spaces nor line feeds in them.
-use Rattle.std.proofs.Common.{◌≡◌, ℕ, ◌^◌, ◌<◌, true, List, [], ◌∷◌, ◌++◌, refl, ◌∙◌, arith}
+use Rattle.std.proofs.Common.{◌≡◌, ℕ, zero, suc, ◌^◌, ◌<◌, true, List, [], ◌∷◌, ◌++◌, refl, ◌∙◌, arith}
 use Rattle.std.specs.Prelude.{Option, Some, None, IfSome, codes}
 use Rattle.std.specs.Fmt.{decimal}
 use Rattle.std.proofs.lemmas.List.Folds.{list_all-append}
 use Rattle.k42_kinds.specs.Words.{is_visible}
 use Rattle.k42_kinds.specs.declared.operation.KindName.{KindName}
-use Rattle.k42_kinds.specs.declared.operation.LayoutName.{LayoutName}
-use Rattle.k42_kinds.specs.declared.operation.LayoutName.TheVariants.{Shared, Spread}
 use Rattle.k42_kinds.specs.declared.operation.Op.{Op}
 use Rattle.k42_kinds.specs.declared.operation.Op.TheVariants.{Add, Get, Drain, Bind, Find, Unbind, Size, Write, Read, Dirty, Clean, Seen}
 use Rattle.k42_kinds.specs.declared.operation.Reply.{Reply}
@@ -18,7 +16,7 @@ use Rattle.k42_kinds.specs.declared.entry.Answer.{Answer}
 use Rattle.k42_kinds.specs.declared.entry.Answer.TheVariants.{Replied, Swapped, Busy, Spent, Gone, Abandoned}
 use Rattle.script_text.specs.Sound.{NamesPage, IsActOn, HasDistinctNames}
 use Rattle.script_text.specs.declared.script.Script.{Script}
-use Rattle.record_text.specs.Acts.{operation_word, argument_tokens, layout_word, act_tokens}
+use Rattle.record_text.specs.Acts.{operation_word, argument_tokens, numbered_layout_word, act_tokens}
 use Rattle.record_text.specs.Answers.{reply_tokens, answer_tokens}
 use Rattle.record_text.specs.Texts.{worker_name, object_name, generation_token, extra_tokens, line_tokens}
 use Rattle.record_text.specs.Spelling.{HasSpelling}
@@ -43,9 +41,10 @@ three_solid first second third one two three = rw (one, two, three) refl
 marked_solid : (mark n : ℕ) → is_visible mark ≡ true → n < 2 ^ 64 → is_solid (mark ∷ decimal n) ≡ true
 marked_solid mark n shows small = rw (shows, decimal_solid n small) refl
 
-layout_solid : (layout : LayoutName) → is_solid (layout_word layout) ≡ true
-layout_solid Shared = refl
-layout_solid Spread = refl
+layout_solid : (number : ℕ) → number < 2 → is_solid (numbered_layout_word number) ≡ true
+layout_solid zero named = refl
+layout_solid (suc zero) named = refl
+layout_solid (suc (suc number)) named = absurd (omega (arith, named))
 
 operation_solid : (op : Op) → is_solid (operation_word op) ≡ true
 operation_solid (Add amount) = refl
@@ -77,7 +76,7 @@ arguments_solid Seen page fits = refl
 
 act_solid : (object : List ℕ) (kind : KindName) (act : Act Op) → is_solid object ≡ true → IsActOn kind act → FitsAct act → are_solid (act_tokens object act) ≡ true
 act_solid object kind (Call op) solid is_on fits = rw (solid, operation_solid op, arguments_solid op is_on.1 fits) refl
-act_solid object kind (Swap (Layout layout)) solid is_on fits = rw (solid, layout_solid layout) refl
+act_solid object kind (Swap (Layout number)) solid is_on fits = rw (solid, layout_solid number is_on) refl
 act_solid object kind (Swap Dead) solid is_on fits = rw solid refl
 act_solid object kind (Swap Watch) solid is_on fits = rw solid refl
 act_solid object kind (Swap Unwatch) solid is_on fits = rw solid refl

@@ -4,7 +4,6 @@ use Rattle.std.specs.List.{position}
 use Rattle.std.specs.Str.{bytes_eq}
 use Rattle.k42_kinds.specs.declared.operation.KindName.{KindName}
 use Rattle.k42_kinds.specs.declared.operation.KindName.TheVariants as kinds
-use Rattle.k42_kinds.specs.declared.operation.LayoutName.TheVariants.{Shared, Spread}
 use Rattle.k42_kinds.specs.declared.operation.Op.{Op}
 use Rattle.k42_kinds.specs.declared.operation.Op.TheVariants.{Add, Get, Drain, Bind, Find, Unbind, Size, Write, Read, Dirty, Clean, Seen}
 use Rattle.k42_kinds.specs.declared.entry.Act.{Act}
@@ -92,8 +91,8 @@ operation_at kind tokens = do
 -- a swap to the layout of this word
 abbrev pub layout_of : List ℕ → Option To
 layout_of word =
-    if bytes_eq word (codes "shared") then Some (Layout Shared)
-    else if bytes_eq word (codes "spread") then Some (Layout Spread)
+    if bytes_eq word (codes "shared") then Some (Layout 0)
+    else if bytes_eq word (codes "spread") then Some (Layout 1)
     else None
 
 -- what a swap is to: `LAYOUT` of one to a layout

@@ -4,16 +4,14 @@ ghost use Rattle.record_text.specs.Tokens.{behind_spaces};
 ghost use Rattle.record_text.specs.Acts as spelling;
 
 use crate::printing::tokens::{put_number, put_token};
-use k42_kinds::{Act, LayoutName, Op, To};
+use k42_kinds::{Act, Op, To};
 use k42_memory::Memory;
 
-fn layout_word(layout: &LayoutName) -> &'static [u8]
-    ensures { result.now ≡ spelling.layout_word layout.now }
+/// The word of the layout of this number.
+fn layout_word(number: u8) -> &'static [u8]
+    ensures { result.now ≡ spelling.numbered_layout_word number }
 {
-    match layout {
-        LayoutName::Shared => b"shared",
-        LayoutName::Spread => b"spread",
-    }
+    if number == 0 { b"shared" } else { b"spread" }
 }
 
 fn operation_word(op: &Op) -> &'static [u8]
@@ -67,10 +65,10 @@ pub fn put_act(out: &mut Vec<u8>, object: &[u8], act: &Act<Op>) -> Result<(), Me
             put_token(out, operation_word(op))?;
             put_arguments(out, op)
         }
-        Act::Swap(To::Layout(layout)) => {
+        Act::Swap(To::Layout(number)) => {
             put_token(out, b"swap")?;
             put_token(out, object)?;
-            put_token(out, layout_word(layout))
+            put_token(out, layout_word(*number))
         }
         Act::Swap(To::Dead) => {
             put_token(out, b"destroy")?;

@@ -10,7 +10,7 @@ use crate::reading::cursor::{Left, take_token};
 use crate::reading::parts::{
     is_word, take_name, take_number, take_page, take_small_number, take_text,
 };
-use k42_kinds::{Act, KindName, LayoutName, Op, To};
+use k42_kinds::{Act, KindName, Op, To};
 use script_text::Script;
 
 /// An act, and the place of its object in the script.
@@ -95,10 +95,10 @@ fn layout_of(word: &[u8]) -> Option<To>
     ensures { result ≡ parts.layout_of word.now }
 {
     if is_word(word, "shared") {
-        return Some(To::Layout(LayoutName::Shared));
+        return Some(To::Layout(0));
     }
     if is_word(word, "spread") {
-        return Some(To::Layout(LayoutName::Spread));
+        return Some(To::Layout(1));
     }
     None
 }

@@ -3,10 +3,10 @@ ghost use Rattle.std.specs.Thread.{IsSync};
 ghost use Rattle.k42_crews.specs.Ready.{AreFree, IsFree, StaysFree};
 
 use crate::tests::rolls::roll_through;
+use co_system::{Pass, System, To};
 use k42_crews::{Work, call_once, work_all};
 use k42_kinds::Op;
 use k42_memory::Memory;
-use k42_runtime::{Pass, System, To};
 use std::alloc::{AllocGlobal, Global};
 use std::process::Abort;
 use std::random::RandomSource;

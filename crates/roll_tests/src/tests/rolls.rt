@@ -1,14 +1,17 @@
 //! Plans that are polled by hand, and by an executor.
 ghost use Rattle.std.specs.Prelude.{◌≡◌, ◌<◌, true, length, IfOk, IsSomeAnd};
+ghost use Rattle.co_any.specs.Layouts.{LeadsAny};
+ghost use Rattle.co_system.specs.Systems.{MayLead};
 ghost use Rattle.k42_crews.specs.Ready.{AreFree};
 ghost use Rattle.k42_places.specs.Places.{EachPlace};
+ghost use Rattle.k42_watch.specs.WatchedRows.{LeadsWatched};
 ghost use Rattle.swap_future.specs.Rolling.{IsRolling, MayRoll, seen};
 ghost use Rattle.roll_tests.specs.Rolls.{AreWithin};
 
+use co_system::{Cause, Pass, System, To};
 use futures::Future;
 use futures::executor::block_on;
 use futures::task::{Doorbell, Queue};
-use k42_runtime::{Cause, Pass, System, To};
 use std::alloc::{AllocGlobal, Global};
 use std::io;
 use std::process::Abort;
@@ -16,13 +19,23 @@ use std::random::RandomSource;
 use std::sync::Wait;
 use swap_future::{Roll, Rolled};
 
+/// Whether a swap of any object may lead there.
+fn leads(to: To) -> bool
+    ensures { result ≡ true → LeadsWatched LeadsAny to }
+{
+    match to {
+        To::Layout(number) => number < 2,
+        To::Dead | To::Watch | To::Unwatch => true,
+    }
+}
+
 fn are_within(plan: &[(u32, To)], objects: u32) -> bool
     ensures { result ≡ true → AreWithin objects plan.now }
 {
     let Some((asked, others)) = plan.split_first() else {
         return true;
     };
-    if asked.0 >= objects {
+    if asked.0 >= objects || !leads(asked.1) {
         return false;
     }
     are_within(others, objects)
@@ -34,6 +47,7 @@ fn may_roll(system: &System, passes: &[Pass], plan: &[(u32, To)]) -> bool
     ensures some { result ≡ true → 0 < length passes.now }
     ensures passes { result ≡ true → EachPlace (λ i. MayRoll system.now) passes.now }
     ensures objects { result ≡ true → EachPlace (λ i asked. asked.0 < length system.now.plan.objects) plan.now }
+    ensures leads { result ≡ true → EachPlace (λ i asked. MayLead system.now.plan asked.0 asked.1) plan.now }
 {
     if !are_within(plan, system.objects()) {
         return false;

@@ -1,7 +1,7 @@
 //! An activity of a pass.
 ghost use Rattle.k42_crews.specs.Ready.{IsFree, IsIn};
 
-use k42_runtime::{Pass, System};
+use co_system::{Pass, System};
 
 /// Begins an activity.
 pub(super) fn come_in(system: &System, pass: &mut Pass)

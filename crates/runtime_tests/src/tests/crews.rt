@@ -3,9 +3,9 @@ ghost use Rattle.std.specs.Prelude.{◌≡◌};
 ghost use Rattle.k42_board.specs.declared.keep.Keep.TheVariants.{All};
 ghost use Rattle.k42_crews.specs.Ready.{AreFree, IsFree};
 
+use co_system::{History, Keep, Pass, Plan, System, SystemLayout, kept_as};
 use k42_crews::{close, end, last, section, start};
 use k42_kinds::{Entry, KindName, LayoutName, Op, Reply};
-use k42_runtime::{History, Keep, ObjectPlan, Pass, Plan, System};
 use std::alloc::Global;
 use std::process::Abort;
 
@@ -22,7 +22,7 @@ pub(super) struct Three {
 pub(super) fn started(
     rt: &impl Abort,
     alloc: Global,
-    object: ObjectPlan,
+    object: SystemLayout,
     objects: usize,
     procs: u32,
     keep: Keep,
@@ -53,10 +53,10 @@ pub(super) fn take_three(rt: &impl Abort, system: &System, mut passes: Vec<Pass>
     Three { zero, one, two }
 }
 
-pub(super) const COUNTER: ObjectPlan = ObjectPlan {
-    kind: KindName::Counter,
-    layout: LayoutName::Shared,
-};
+/// How a shared counter starts.
+pub(super) fn counter() -> SystemLayout {
+    kept_as(KindName::Counter, LayoutName::Shared)
+}
 
 /// So many shared counters on one processor, and passes that keep these entries.
 pub(super) fn counters(
@@ -70,7 +70,7 @@ pub(super) fn counters(
     ensures two { IsFree result.0 result.1.two }
     ensures keeps { result.0.plan.keep ≡ keep }
 {
-    started(rt, alloc, COUNTER, objects, 1, keep)
+    started(rt, alloc, counter(), objects, 1, keep)
 }
 
 /// The three in one list.

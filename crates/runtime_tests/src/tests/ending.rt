@@ -2,9 +2,9 @@
 ghost use Rattle.k42_crews.specs.Ready.{IsFree};
 
 use crate::tests::steps::{ask_once, reclaim, swap, swap_to_layout};
+use co_system::{Pass, Swapped, System, To};
 use k42_crews::{call_once, swap_once};
 use k42_kinds::{LayoutName, Op, Reply};
-use k42_runtime::{Pass, Swapped, System, To};
 use std::alloc::Global;
 use std::process::Abort;
 use std::sync::Wait;
@@ -39,7 +39,9 @@ fn add_often_and_swap<R: Abort + Wait>(
         let reply = call_once(rt, alloc, system, pass, 0, Op::Add(1)).expect(rt, "a call");
         assert!(rt; reply == Some(Reply::Done));
     }
-    swap_once(rt, alloc, system, pass, 0, to).expect(rt, "a swap");
+    let number = to.number();
+    assert!(rt; number < 2);
+    swap_once(rt, alloc, system, pass, 0, number).expect(rt, "a swap");
 }
 
 /// Makes 2^21 calls, and sixteen swaps between them.

@@ -3,8 +3,8 @@ ghost use Rattle.k42_crews.specs.Ready.{AreFree, IsFree};
 
 use crate::tests::crews::{Three, listed, sectioned, take_three};
 use crate::tests::steps::ask_once;
+use co_system::{Pass, System};
 use k42_kinds::{Op, Reply};
-use k42_runtime::{Pass, System};
 use std::alloc::Global;
 use std::process::Abort;
 use std::sync::Wait;

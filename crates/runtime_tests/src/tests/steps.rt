@@ -1,11 +1,14 @@
 //! What the passes of the tests do, within their bounds.
+ghost use Rattle.std.specs.Prelude.{◌≡◌, true};
+ghost use Rattle.co_any.specs.Layouts.{LeadsAny};
 ghost use Rattle.k42_crews.specs.Ready.{IsFree, IsIn};
+ghost use Rattle.k42_watch.specs.WatchedRows.{LeadsWatched};
 ghost use Rattle.runtime_tests.specs.Ready.{IsSwapping};
 
+use co_system::{Pass, Step, Swap, Swapped, System, To};
 use k42_crews::{call_once, swap_once};
 use k42_kinds::{LayoutName, Op, Reply};
 use k42_limits::PASS_GRACES;
-use k42_runtime::{Pass, Step, Swap, Swapped, System, To};
 use std::alloc::Global;
 use std::process::Abort;
 use std::sync::Wait;
@@ -73,7 +76,9 @@ pub(super) fn swap_to_layout<R: Abort + Wait>(
     requires free { IsFree system.now pass.old }
     ensures free { IsFree system.now pass.new }
 {
-    let end = swap_once(rt, alloc, system, pass, object, to).expect(rt, "a swap");
+    let number = to.number();
+    assert!(rt; number < 2);
+    let end = swap_once(rt, alloc, system, pass, object, number).expect(rt, "a swap");
     assert!(rt; end == Some(due));
 }
 
@@ -90,7 +95,10 @@ pub(super) fn swap<R: Abort + Wait>(
 {
     assert!(rt; system.objects() > 0);
     let end = match to {
-        To::Layout(layout) => system.swap(rt, alloc, pass, 0, layout),
+        To::Layout(number) => {
+            assert!(rt; number < 2);
+            system.swap(rt, alloc, pass, 0, number)
+        }
         To::Dead => system.destroy(rt, alloc, pass, 0),
         To::Watch => system.watch(rt, alloc, pass, 0),
         To::Unwatch => system.unwatch(rt, alloc, pass, 0),
@@ -107,12 +115,23 @@ pub(super) fn reclaim<R: Abort + Wait>(rt: &R, system: &System, pass: &mut Pass,
     assert!(rt; system.reclaim(rt, pass) == due);
 }
 
+/// Whether a swap may lead there.
+fn may_lead(to: To) -> bool
+    ensures { result ≡ true → LeadsWatched LeadsAny to }
+{
+    match to {
+        To::Layout(number) => number < 2,
+        To::Dead | To::Watch | To::Unwatch => true,
+    }
+}
+
 /// A swap of the pass that has not begun.
 pub(super) fn swap_to(rt: &impl Abort, system: &System, pass: &Pass, object: u32, to: To) -> Swap
     requires free { IsFree system.now pass.now }
     ensures new { IsSwapping system.now result pass.now }
 {
     assert!(rt; object < system.objects());
+    assert!(rt; may_lead(to));
     Swap::new(object, to)
 }
 

@@ -5,8 +5,8 @@ ghost use Rattle.runtime_tests.specs.Ready.{IsSwapping};
 use crate::tests::steps::{
     ask, come_in, end_swap, go_home, reclaim, step_to, swap_to, swap_to_layout,
 };
+use co_system::{Cause, Pass, Step, Swap, Swapped, System, To};
 use k42_kinds::{LayoutName, Op, Reply};
-use k42_runtime::{Cause, Pass, Step, Swap, Swapped, System, To};
 use std::alloc::Global;
 use std::process::Abort;
 use std::sync::Wait;
@@ -59,7 +59,7 @@ pub(super) fn swap_beside<R: Abort + Wait>(
 {
     come_in(system, zero);
     ask(rt, alloc, system, zero, Op::Add(5), Reply::Done);
-    let mut swap = swap_to(rt, system, one, 0, To::Layout(LayoutName::Spread));
+    let mut swap = swap_to(rt, system, one, 0, To::Layout(1));
     find_left(rt, alloc, system, one, &mut swap);
     let busy = Swapped::Busy(1);
     swap_to_layout(rt, alloc, system, two, 0, LayoutName::Spread, busy);

@@ -3,9 +3,9 @@ ghost use Rattle.k42_crews.specs.Ready.{IsFree};
 
 use crate::tests::steps::{come_in, go_home, swap, swap_to};
 use crate::tests::waiting::{find_done, find_left};
+use co_system::{Pass, Swapped, System};
 use k42_crews::call_once;
 use k42_kinds::{Act, Answer, KindName, LayoutName, Name, Op, Reply, Text, To};
-use k42_runtime::{Pass, Swapped, System};
 use std::alloc::Global;
 use std::process::Abort;
 use std::sync::Wait;
@@ -132,7 +132,7 @@ pub(super) fn swap_and_call<R: Abort + Wait>(
     ensures zero { IsFree system.now zero.new }
     ensures one { IsFree system.now one.new }
 {
-    let moved = [swapped(To::Layout(to), 3)];
+    let moved = [swapped(To::Layout(to.number()), 3)];
     follow(rt, alloc, system, zero, moved.as_slice());
     let counted = [
         called(Op::Seen, Reply::Number(2)),

@@ -3,9 +3,9 @@ ghost use Rattle.std.specs.Prelude.{◌≡◌};
 ghost use Rattle.k42_board.specs.declared.keep.Keep.TheVariants.{All};
 ghost use Rattle.k42_crews.specs.Ready.{AreFree};
 
+use co_system::{History, Keep, Pass, Plan, System, kept_as};
 use k42_crews::{close, start};
 use k42_kinds::{Entry, KindName, LayoutName, Op, Reply};
-use k42_runtime::{History, Keep, ObjectPlan, Pass, Plan, System};
 use std::alloc::Global;
 use std::process::Abort;
 use std::sync::Wait;
@@ -24,8 +24,7 @@ pub(super) fn crew_of(
     ensures free { AreFree result.0 result.1.items }
     ensures keeps { result.0.plan.keep ≡ All }
 {
-    let layout = LayoutName::Spread;
-    let objects = vec![in alloc; ObjectPlan { kind, layout }].expect(rt, "memory");
+    let objects = vec![in alloc; kept_as(kind, LayoutName::Spread)].expect(rt, "memory");
     let homes = homes.to_vec(alloc).expect(rt, "memory");
     let plan = Plan::new(procs, objects, homes, Keep::All).expect(rt, "a plan");
     start(alloc, plan).expect(rt, "memory")

@@ -1,10 +1,10 @@
 //! Sixteen passes add once, and half of them are told afterwards that there was no memory.
 use crate::tests::crews::{closed, crew_of};
 use crate::tests::sixteen::SIXTEEN;
+use co_system::{Pass, System};
 use k42_crews::{Work, call_once, work_all};
 use k42_kinds::{KindName, Op};
 use k42_memory::Memory;
-use k42_runtime::{Pass, System};
 use std::alloc::Global;
 use std::process::Abort;
 use std::sync::Wait;

@@ -5,10 +5,10 @@ ghost use Rattle.k42_crews.specs.Ready.{IsFree, AreFree, StaysFree};
 ghost use Rattle.runtime_threads.specs.Ready.{HasAdded};
 
 use crate::tests::crews::{closed, crew_of, wait_for};
+use co_system::{Pass, System};
 use k42_crews::{Work, call_once, work_all};
 use k42_kinds::{KindName, Op};
 use k42_memory::Memory;
-use k42_runtime::{Pass, System};
 use std::alloc::Global;
 use std::process::Abort;
 use std::sync::Wait;

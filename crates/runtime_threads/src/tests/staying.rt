@@ -4,11 +4,11 @@ ghost use Rattle.k42_crews.specs.Ready.{IsFree, IsIn, StaysFree};
 ghost use Rattle.runtime_threads.specs.Ready.{IsSwapping};
 
 use crate::tests::crews::wait_for;
+use co_system::{Cause, Pass, Step, Swap, System, To};
 use crossbeam_utils::Backoff;
 use k42_crews::Work;
-use k42_kinds::{LayoutName, Op};
+use k42_kinds::Op;
 use k42_memory::Memory;
-use k42_runtime::{Cause, Pass, Step, Swap, System, To};
 use std::alloc::Global;
 use std::sync::Wait;
 use std::sync::atomic::{AtomicU64, Ordering};
@@ -154,7 +154,7 @@ impl LongStay {
         if system.objects() == 0 {
             return Ok(());
         }
-        let mut swap = Swap::new(0, To::Layout(LayoutName::Shared));
+        let mut swap = Swap::new(0, To::Layout(0));
         self.swap_once(rt, alloc, system, pass, &mut swap)
     }
 }

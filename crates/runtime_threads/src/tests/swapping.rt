@@ -3,11 +3,11 @@ ghost use Rattle.k42_crews.specs.Ready.{IsFree, StaysFree};
 
 use crate::tests::asking::asked_by;
 use crate::tests::crews::wait_for;
+use co_system::{Pass, System};
 use crossbeam_utils::Backoff;
 use k42_crews::Work;
-use k42_kinds::{KindName, LayoutName};
+use k42_kinds::KindName;
 use k42_memory::Memory;
-use k42_runtime::{Pass, System};
 use std::alloc::Global;
 use std::sync::Wait;
 use std::sync::atomic::{AtomicU64, Ordering};
@@ -80,15 +80,11 @@ impl ToAndFro {
         ensures { StaysFree system.now pass.old pass.new }
     {
         let backoff = Backoff::new();
-        for number in 0..1_000_000 {
+        for number in 0..1_000_000u32 {
             if self.done.load(Ordering::SeqCst) >= 4 || system.objects() == 0 {
                 return Ok(());
             }
-            let to = if number % 2 == 0 {
-                LayoutName::Shared
-            } else {
-                LayoutName::Spread
-            };
+            let to = (number % 2) as u8;
             system.swap(rt, alloc, pass, 0, to).map_err(|_| Memory)?;
             self.swaps.fetch_add(1, Ordering::SeqCst);
             backoff.snooze();

@@ -3,11 +3,11 @@ ghost use Rattle.std.specs.Prelude.{OnOk};
 ghost use Rattle.k42_crews.specs.Ready.{IsFree, StaysFree};
 
 use crate::tests::crews::wait_for;
+use co_system::{Pass, Swapped, System};
 use crossbeam_utils::Backoff;
 use k42_crews::{Work, call_once, swap_once};
-use k42_kinds::{Act, Answer, Entry, LayoutName, Op, Reply, To};
+use k42_kinds::{Act, Answer, Entry, Op, Reply, To};
 use k42_memory::Memory;
-use k42_runtime::{Pass, Swapped, System};
 use std::alloc::Global;
 use std::sync::Wait;
 use std::sync::atomic::{AtomicU64, Ordering};
@@ -122,15 +122,11 @@ impl Instrument {
         ensures { StaysFree system.now pass.old pass.new }
     {
         let backoff = Backoff::new();
-        for number in 0..1_000_000 {
+        for number in 0..1_000_000u32 {
             if self.done.load(Ordering::SeqCst) >= 4 {
                 return Ok(());
             }
-            let to = if number % 2 == 0 {
-                LayoutName::Shared
-            } else {
-                LayoutName::Spread
-            };
+            let to = (number % 2) as u8;
             swap_once(rt, alloc, system, pass, 0, to).map_err(|_| Memory)?;
             backoff.snooze();
         }

@@ -2,7 +2,7 @@
 ghost use Rattle.std.specs.Prelude.{true};
 ghost use Rattle.task_workers.specs.Rounds.{IsInRun, AreInRun};
 
-use k42_runtime::{Cause, System};
+use co_system::{Cause, System};
 use k42_workers::FreeGate;
 use std::alloc::Global;
 use std::process::Abort;

@@ -102,7 +102,7 @@ fn swap(line: u32, object: u32, layout: LayoutName) -> Item {
     Item::Line(CallLine {
         line,
         object,
-        act: Act::Swap(To::Layout(layout)),
+        act: Act::Swap(To::Layout(layout.number())),
     })
 }
 

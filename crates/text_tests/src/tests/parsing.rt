@@ -391,7 +391,7 @@ fn each_worker_has_the_lines_behind_its_own(rt: HostRuntime) {
         Item::Begin,
         call(5, Op::Add(5)),
         Item::End,
-        asks(8, 0, Act::Swap(To::Layout(LayoutName::Shared))),
+        asks(8, 0, Act::Swap(To::Layout(0))),
     ];
     let second = [
         asks(10, 1, Act::Call(Op::Bind(end, 7))),

@@ -3,9 +3,9 @@ ghost use Rattle.std.specs.Prelude.{◌≡◌};
 ghost use Rattle.k42_board.specs.declared.keep.Keep.TheVariants.{All};
 ghost use Rattle.k42_crews.specs.Ready.{IsFree};
 
+use co_system::{History, Keep, Pass, Plan, System, kept_as};
 use k42_crews::{close, last, start};
 use k42_kinds::{Entry, KindName, LayoutName, Op, Reply};
-use k42_runtime::{History, Keep, ObjectPlan, Pass, Plan, System};
 use std::alloc::Global;
 use std::process::Abort;
 
@@ -24,10 +24,7 @@ pub(super) fn counter(rt: &impl Abort, alloc: Global) -> (System, Three)
     ensures two { IsFree result.0 result.1.two }
     ensures keeps { result.0.plan.keep ≡ All }
 {
-    let counter = ObjectPlan {
-        kind: KindName::Counter,
-        layout: LayoutName::Shared,
-    };
+    let counter = kept_as(KindName::Counter, LayoutName::Shared);
     let objects = vec![in alloc; counter].expect(rt, "memory");
     let homes = vec![in alloc; 0, 0, 0].expect(rt, "memory");
     let plan = Plan::new(1, objects, homes, Keep::All).expect(rt, "a plan");

@@ -5,8 +5,8 @@ ghost use Rattle.waiting_tests.specs.Ready.{IsCallOf, IsInRow};
 
 use crate::tests::steps::{ask, come_in, find_answered, find_held_up, go_home};
 use crate::tests::table::{end_call, hold_cell, let_go};
+use co_system::{Call, CallCause, Pass, System};
 use k42_kinds::{Op, Reply};
-use k42_runtime::{Call, CallCause, Pass, System};
 use std::alloc::Global;
 use std::process::Abort;
 use std::sync::Wait;

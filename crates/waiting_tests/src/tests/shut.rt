@@ -5,8 +5,8 @@ ghost use Rattle.waiting_tests.specs.Ready.{IsCallOf, IsInRow, IsSwapping};
 
 use crate::tests::steps::{come_in, end_swap, find_answered, find_held_up, go_home, step_to};
 use crate::tests::table::{end_call, knock_in};
+use co_system::{Call, CallCause, Cause, Pass, Step, Swap, Swapped, System};
 use k42_kinds::Reply;
-use k42_runtime::{Call, CallCause, Cause, Pass, Step, Swap, Swapped, System};
 use std::alloc::Global;
 use std::process::Abort;
 

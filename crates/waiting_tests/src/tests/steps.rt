@@ -1,9 +1,10 @@
 //! What the passes of the tests do, within their bounds.
+ghost use Rattle.std.specs.Prelude.{◌<◌};
 ghost use Rattle.k42_crews.specs.Ready.{IsFree, IsIn};
 ghost use Rattle.waiting_tests.specs.Ready.{IsCallOf, IsSwapping};
 
-use k42_kinds::{LayoutName, Op, Reply};
-use k42_runtime::{Call, CallCause, CallStep, Pass, Step, Swap, System, To};
+use co_system::{Call, CallCause, CallStep, Pass, Step, Swap, System, To};
+use k42_kinds::{Op, Reply};
 use std::alloc::Global;
 use std::process::Abort;
 use std::sync::Wait;
@@ -68,19 +69,20 @@ fn try_call(
     assert!(rt; step == due);
 }
 
-/// A swap of the pass that has not begun.
+/// A swap of the pass to the layout of that number, which has not begun.
 pub(super) fn swap_to(
     rt: &impl Abort,
     system: &System,
     pass: &Pass,
     object: u32,
-    to: LayoutName,
+    layout: u8,
 ) -> Swap
     requires free { IsFree system.now pass.now }
+    requires leads { layout < 2 }
     ensures new { IsSwapping system.now result pass.now }
 {
     assert!(rt; object < system.objects());
-    Swap::new(object, To::Layout(to))
+    Swap::new(object, To::Layout(layout))
 }
 
 /// Steps a swap that is not over, and this step comes to that.

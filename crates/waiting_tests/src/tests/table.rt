@@ -3,9 +3,9 @@ ghost use Rattle.std.specs.Prelude.{◌<◌, [], ◌∷◌};
 ghost use Rattle.k42_crews.specs.Ready.{IsIn};
 ghost use Rattle.waiting_tests.specs.Ready.{IsInRow};
 
+use co_system::{Pass, System};
 use k42_mediator::{Knocked, knock};
 use k42_rule::{lock, unlock};
-use k42_runtime::{Pass, System};
 use k42_tables::{Entered, finish_call, look_up};
 use std::process::Abort;
 

@@ -3,7 +3,7 @@ use Rattle.std.specs.Arc.{arc_value}
 use Rattle.std.specs.List.{slice_get}
 use Rattle.std.specs.Option.{IsSomeAnd}
 use Rattle.k42_crews.specs.Ready.{IsFree, AreFree}
-use Rattle.k42_runtime.specs.Systems.{SystemPass}
+use Rattle.co_system.specs.Systems.{SystemPass}
 use Rattle.k42_c.specs.Gathering.{NoneIsLost}
 use Rattle.k42_c.specs.Parking.{IsAt}
 use Rattle.k42_c.proofs.Gathered.{one_back, one_taken}

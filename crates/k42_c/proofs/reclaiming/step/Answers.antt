@@ -10,7 +10,7 @@ use Rattle.k42_quiesce.specs.Gracing.{GoesOn, IsLeft, has_role, with_role}
 use Rattle.k42_quiesce.specs.Reclaiming.{Reclaims as Frees, AreRowsFreed, reclaimed_view}
 use Rattle.k42_quiesce.specs.declared.steps.GraceStep.TheVariants.{Again, Quiet}
 use Rattle.k42_quiesce.specs.declared.steps.Held.TheVariants.{Left, RoleHeld}
-use Rattle.k42_runtime.specs.Systems.{SystemLayout, SystemPart, SystemPass, any_layouts, layouts_in}
+use Rattle.co_system.specs.Systems.{SystemLayout, SystemPart, SystemPass, any_layouts, layouts_in}
 use Rattle.k42_c.proofs.Reclaimed.{HasTried, found_role, freed_rests, goes_on, granted_all, has_role_now, none_left}
 use Rattle.k42_c.proofs.reclaiming.step.Goals as goal
 use Rattle.k42_kinds.specs.declared.operation.Op.{Op}

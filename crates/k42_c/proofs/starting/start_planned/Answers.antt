@@ -1,6 +1,6 @@
 use Rattle.std.proofs.Common.{◌≡◌, rules, sym, subst}
 use Rattle.std.specs.Arc.{arc_value}
-use Rattle.k42_runtime.specs.Systems.{HasStarted, SystemSeen}
+use Rattle.co_system.specs.Systems.{HasStarted, SystemSeen}
 use Rattle.k42_c.specs.declared.home.Home.{Home}
 use Rattle.k42_c.proofs.Started.{on_ok}
 use Rattle.k42_c.proofs.starting.start_planned.Goals as goal

@@ -1,14 +1,8 @@
-use Rattle.std.proofs.Common.{rules}
-use Rattle.k42_runtime.specs.Systems.{HasStarted}
 use Rattle.k42_crews.proofs.FreePasses.{started_free, started_all}
 use Rattle.k42_crews.proofs.crews.start.Goals as goal
 
 pub returns-clause-free : goal.returns-clause-free
-returns-clause-free c =
-    let is : HasStarted c.args.plan c.in_ok-system.system c.in_ok-system.passes.items = search rules in
-    started_free c.args.plan c.in_ok-system.system c.in_ok-system.passes.items is
+returns-clause-free g c = started_free _ c.args.plan c.in_ok-system.system c.in_ok-system.passes.items c.in_ok-system.ensures
 
 pub returns-clause-all : goal.returns-clause-all
-returns-clause-all c =
-    let is : HasStarted c.args.plan c.in_ok-system.system c.in_ok-system.passes.items = search rules in
-    started_all c.args.plan c.in_ok-system.system c.in_ok-system.passes.items is
+returns-clause-all g c = started_all _ c.args.plan c.in_ok-system.system c.in_ok-system.passes.items c.in_ok-system.ensures

@@ -12,12 +12,10 @@ use Rattle.k42_mediator.specs.Taken.{MayPutBack}
 use Rattle.k42_mediator.proofs.GivenBack.{cell_in, comes_back}
 use Rattle.k42_mediator.proofs.Remaining.{none_remains}
 use Rattle.k42_mediator.proofs.SamePass.{same_twice}
-use Rattle.k42_runtime.specs.Systems.{any_layouts}
+use Rattle.k42_board.specs.Plan.{layouts_on}
 use Rattle.k42_runtime.proofs.cells.give_held.Goals as goal
-use Rattle.k42_kinds.specs.declared.operation.Op.{Op}
-use Rattle.k42_kinds.specs.declared.operation.Reply.{Reply}
 
-may_put_held : {S L P : Type 0} (F : Layouts S L P Op Reply) (declared : List L) (id n : ℕ) (v : PassView P Op Reply) (held : Option (Content P Op Reply))
+may_put_held : {S L P O R : Type 0} (F : Layouts S L P O R) (declared : List L) (id n : ℕ) (v : PassView P O R) (held : Option (Content P O R))
     → IsSomeAnd held (λ cell. cell.number ≡ n) → IsSomeAnd held (MayPutBack F declared id v) → IsSomeAnd held (λ cell. MayPut F declared id n cell v)
 may_put_held F declared id n v None number ready = absurd ready
 may_put_held F declared id n v (Some cell) number ready =
@@ -27,12 +25,12 @@ may_put_held F declared id n v (Some cell) number ready =
     (ready.due v (record { visitor = refl; last = refl; handed = refl }) ready.held.noted refl))
 
 pub put_from-requires-clause-may : goal.put_from-requires-clause-may
-put_from-requires-clause-may c κs =
-    may_put_held (any_layouts c.args.sys.now.procs c.args.sys.now.callers) c.args.sys.now.layouts c.args.pass.now.seat c.args.number c.args.pass.now.view
+put_from-requires-clause-may g c κs within =
+    may_put_held (layouts_on g.L.Kind.object g.L.Layout.shapes g.L.Layout.tag_of g.L.Layout.ways g.L.Layout.whole g.L.Layout.serves g.L.Layout.admitted g.L.Layout.act_of c.args.sys.now.procs c.args.sys.now.callers) c.args.sys.now.layouts c.args.pass.now.seat c.args.number c.args.pass.now.view
     c.args.held.now c.requires.number c.requires.ready
 
 pub unlock-requires-after_bounds : goal.unlock-requires-after_bounds
-unlock-requires-after_bounds c κs =
+unlock-requires-after_bounds g c κs within =
     let v = c.args.pass.now.view in let n : ℕ = c.args.number in let one = held_one c.args.held.now c.requires.ready in
     let put = held_is _ c.args.held.now one.0 one.1 c.put_from.ensures.put in
     let number : one.0.number ≡ n = subst (λ held. IsSomeAnd held (λ cell. cell.number ≡ n)) one.1 c.requires.number in
@@ -40,17 +38,17 @@ unlock-requires-after_bounds c κs =
       ours = put.same.table ∙ c.requires.ours;
       may = record {
         cell = subst (λ m. m < CELLS) number one.2.cell;
-        held = ap (λ (w : PassView _ Op Reply). names w.taker.held n) put.back.knows ∙ ap (names v.taker.held) (sym number) ∙ one.2.holds;
-        home = ap (λ (w : PassView _ Op Reply). names (cells_noted w.notes) n) put.back.knows ∙ none_remains cell_in n v.notes;
+        held = ap (λ (w : PassView _ _ _). names w.taker.held n) put.back.knows ∙ ap (names v.taker.held) (sym number) ∙ one.2.holds;
+        home = ap (λ (w : PassView _ _ _). names (cells_noted w.notes) n) put.back.knows ∙ none_remains cell_in n v.notes;
       };
     }
 
 pub returns-clause-same : goal.returns-clause-same
-returns-clause-same c =
+returns-clause-same g c =
     let one = held_one c.args.held.now c.requires.ready in
     same_twice _ _ _ (held_is _ c.args.held.now one.0 one.1 c.put_from.ensures.put).same (c.unlock.ensures 0).same
 
 pub returns-clause-comes : goal.returns-clause-comes
-returns-clause-comes c =
+returns-clause-comes g c =
     let one = held_one c.args.held.now c.requires.ready in
     comes_back _ _ c.args.pass.now.view _ _ (held_is _ c.args.held.now one.0 one.1 c.put_from.ensures.put).back.knows (c.unlock.ensures 0).takes.knows

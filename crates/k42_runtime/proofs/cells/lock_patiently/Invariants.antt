@@ -2,4 +2,4 @@ use Rattle.std.specs.Prelude.{◌≡◌}
 use Rattle.k42_runtime.proofs.cells.lock_patiently.Given as goal
 
 abbrev pub invariant-loop : goal.invariant-loop
-invariant-loop l = l.pass ≡ l.fn.pass
+invariant-loop g l = l.pass ≡ l.fn.pass

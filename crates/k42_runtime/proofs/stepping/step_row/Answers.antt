@@ -1,16 +1,15 @@
 use Rattle.std.proofs.Common.{◌≡◌, ℕ, [], ◌++◌, length, take, drop, ap, ◌∙◌}
 use Rattle.std.proofs.lemmas.List.{take-append-drop}
-use Rattle.k42_shapes.specs.Shapes.{cells_of}
 use Rattle.k42_mediator.specs.Parts.{parts_from, filled}
+use Rattle.k42_shapes.specs.Shapes.{cells_of, shape_at}
 use Rattle.k42_runtime.specs.Stepping.{row_behind}
-use Rattle.k42_runtime.specs.Systems.{cells_in, ways_in}
 use Rattle.k42_runtime.proofs.CallStepped.{on_ok_1, filled_front, length-parts_from}
 use Rattle.k42_runtime.proofs.stepping.step_row.Goals as goal
 
 pub returns-clause-moved : goal.returns-clause-moved
-returns-clause-moved c =
-    let ways = ways_in c.args.layout.now in let procs : ℕ = c.args.procs in let op = c.args.op.now in let cells = c.args.cells.now in
-    let many : ℕ = cells_in c.args.layout.now procs in let row = parts_from ways procs 0 (take many cells) in
+returns-clause-moved g c =
+    let ways = g.L.Layout.ways c.args.layout.now in let procs : ℕ = c.args.procs in let op = c.args.op.now in let cells = c.args.cells.now in
+    let many : ℕ = cells_of (shape_at (g.L.Layout.shapes c.args.layout.now) (g.L.Layout.tag_of c.args.layout.now)) procs in let row = parts_from ways procs 0 (take many cells) in
     let own = c.split_at_mut-own.result.0.now in let parts = c.in_ok-parts.parts.items in
     let count : c.cells-many.result ≡ many = c.cells-many.ensures ∙ ap (λ shape. cells_of shape procs) c.shape.ensures in
     let front : own ≡ take many cells = c.split_at_mut-own.ensures.front ∙ ap (λ k. take k cells) count in

@@ -6,7 +6,7 @@ use Rattle.k42_runtime.proofs.waiting.carry_out.Goals as goal
 pub loop-init : goal.loop-init
 loop-init g c =
     not_stepped c.args.system.now c.args.swap.now c.args.pass.now c.requires.ours
-    (subst (λ stage. IsAtStage stage (length c.args.system.now.plan.objects) c.args.swap.now c.args.pass.now) (sym c.requires.new) c.requires.stage)
+    (subst (λ stage. IsAtStage stage c.args.system.now.sys.shapes c.args.swap.now c.args.pass.now) (sym c.requires.new) c.requires.stage)
     (ap is_over c.requires.new)
 
 pub loop-preserved : goal.loop-preserved

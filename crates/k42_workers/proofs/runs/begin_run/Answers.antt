@@ -1,5 +1,5 @@
 use Rattle.std.proofs.Common.{subst}
-use Rattle.k42_runtime.specs.Systems.{HasStarted}
+use Rattle.co_system.specs.Systems.{HasStarted}
 use Rattle.k42_workers.specs.Plans.{plan_of}
 use Rattle.k42_workers.proofs.Ended.{may_work, started_keep}
 use Rattle.k42_workers.proofs.runs.begin_run.Goals as goal

@@ -7,7 +7,7 @@ use Rattle.script_text.specs.Lawful.{IsLawful}
 use Rattle.record_text.specs.Histories.{record_of}
 use Rattle.record_text.specs.Rules.{IsLawfulRecord}
 use Rattle.record_text.specs.Spelling.{HasGeneration}
-use Rattle.k42_runtime.specs.Histories.{HistorySeen}
+use Rattle.co_system.specs.Systems.{HistorySeen}
 use Rattle.k42_workers.specs.Workers.{IsRunOf}
 use Rattle.k42_workers.proofs.Halved.{where_ok}
 use Rattle.k42_workers.proofs.Judged.{lawful, generations, judged_lawful}

@@ -6,11 +6,10 @@ ghost use Rattle.k42_shapes.specs.declared.shape.Shape.TheVariants.{One};
 ghost use Rattle.k42_shapes.specs.Shapes.{IsKnownTag};
 ghost use Rattle.k42_kinds.specs.declared.entry.Act.TheVariants.{Swap};
 ghost use Rattle.k42_kinds.specs.declared.entry.To.TheVariants.{Layout as Kept};
-ghost use Rattle.k42_kinds.specs.declared.operation.LayoutName.TheVariants.{Shared};
 ghost use Rattle.k42_kinds.specs.LayoutLaws.{IsWholeRow};
 ghost use Rattle.k42_kinds.specs.LastAmount.{last_amount, one_part, IsOnePart, steps_one, steps_all};
 
-use k42_kinds::{Act, Kind, Layout, LayoutName, Op, Reach, Reply, To};
+use k42_kinds::{Act, Kind, Layout, Op, Reach, Reply, To};
 use k42_memory::Memory;
 use k42_shapes::Shape;
 use std::alloc::Global;
@@ -31,6 +30,10 @@ impl Kind for LastAmount {
 
     fn empty(&self, _alloc: Global) -> u64 {
         0
+    }
+
+    fn takes(&self, _op: &Op) -> bool {
+        true
     }
 
     fn step(&self, _alloc: Global, state: &mut u64, op: &Op) -> Result<Reply, Memory> {
@@ -62,7 +65,9 @@ impl Layout for LastAmount {
 
     ghost admitted = { λ _ state. state };
 
-    ghost act_of = { λ _. Swap (Kept Shared) };
+    ghost act_of = { λ _. Swap (Kept 0) };
+
+    ghost leads = { λ _ to. to ≡ Kept 0 };
 
     fn tag(&self) -> u32 {
         0
@@ -77,6 +82,10 @@ impl Layout for LastAmount {
     }
 
     fn with_tag(&self, _tag: u32) -> Self {
+        LastAmount
+    }
+
+    fn target(&self, _to: To, _present: u32) -> Self {
         LastAmount
     }
 
@@ -111,7 +120,7 @@ impl Layout for LastAmount {
     }
 
     fn act(&self) -> Act<Op> {
-        Act::Swap(To::Layout(LayoutName::Shared))
+        Act::Swap(To::Layout(0))
     }
 
     ghost steps = { λ _ procs proc parts op known in_range takes whole. steps_one procs parts op whole };

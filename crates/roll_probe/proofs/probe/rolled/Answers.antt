@@ -1,6 +1,6 @@
 use Rattle.std.proofs.Common.{subst}
 use Rattle.k42_crews.specs.Ready.{AreFree}
-use Rattle.k42_runtime.specs.Systems.{SystemSeen}
+use Rattle.co_system.specs.Systems.{SystemSeen}
 use Rattle.roll_probe.proofs.Probed.{rolled_free}
 use Rattle.roll_probe.proofs.probe.rolled.Goals as goal
 

@@ -14,19 +14,24 @@ returns-in_default c =
     (turned_idle c.args.system.now c.args.place (seen c.args.rolling.now) c.requires.rolls none.1 none.2)
 
 pub step-requires-clause-ours : goal.step-requires-clause-ours
-step-requires-clause-ours c =
+step-requires-clause-ours c l =
     (going_now c.args.system.now c.args.place (seen c.args.rolling.now) c.requires.rolls c.in-Some.flight (seen c.take_flight.new.rolling) c.in-Some.ensures.some
     c.index_mut.result.now c.requires.there c.index_mut.ensures.value).here
 
 pub step-requires-clause-stage : goal.step-requires-clause-stage
-step-requires-clause-stage c =
+step-requires-clause-stage c l =
     (going_now c.args.system.now c.args.place (seen c.args.rolling.now) c.requires.rolls c.in-Some.flight (seen c.take_flight.new.rolling) c.in-Some.ensures.some
     c.index_mut.result.now c.requires.there c.index_mut.ensures.value).stage
 
 pub step-requires-clause-going : goal.step-requires-clause-going
-step-requires-clause-going c =
+step-requires-clause-going c l =
     (going_now c.args.system.now c.args.place (seen c.args.rolling.now) c.requires.rolls c.in-Some.flight (seen c.take_flight.new.rolling) c.in-Some.ensures.some
     c.index_mut.result.now c.requires.there c.index_mut.ensures.value).going
+
+pub step-requires-clause-leads : goal.step-requires-clause-leads
+step-requires-clause-leads c l =
+    (going_now c.args.system.now c.args.place (seen c.args.rolling.now) c.requires.rolls c.in-Some.flight (seen c.take_flight.new.rolling) c.in-Some.ensures.some
+    c.index_mut.result.now c.requires.there c.index_mut.ensures.value).leads
 
 pub finish-requires-clause-there : goal.finish-requires-clause-there
 finish-requires-clause-there c =

@@ -1,5 +1,5 @@
 use Rattle.std.proofs.Common.{◌∙◌, sym}
-use Rattle.task_workers.proofs.TaskLists.{may_turn, turned}
+use Rattle.task_workers.proofs.TaskLists.{may_turn, not_both, turned}
 use Rattle.task_workers.proofs.rounds.round.Goals.{then-found, else-found}
 use Rattle.task_workers.proofs.rounds.round.Goals as goal
 
@@ -15,7 +15,7 @@ loop-index-preserved g c =
     c.turn-one.new.task c.index-tasks-index.result c.if-found.found c.turn-one.result.refused
     one.own one.in_run
     (λ none. elim c.if-found.branch [
-      | then-found w ↦ absurd (let no = sym w.found-is ∙ none in cc)
+      | then-found w ↦ not_both (sym w.if-found.true ∙ sym w.found-is ∙ none)
       | else-found w ↦ (w.if-found.false, one.ended (sym w.found-is ∙ none))
     ])
     one.kept

@@ -2,7 +2,7 @@ use Rattle.std.proofs.Common.{◌≡◌, ◌∙◌, ℕ, List, ◌∷◌, length
 use Rattle.std.specs.Prelude.{Some, slice_get}
 use Rattle.std.proofs.lemmas.Option.{slice_get_read}
 use Rattle.script_text.specs.declared.script.Item.{Item}
-use Rattle.k42_runtime.specs.Systems.{SystemPass}
+use Rattle.co_system.specs.Systems.{SystemPass}
 use Rattle.task_workers.specs.Tasks.{MayBegin}
 use Rattle.task_workers.specs.declared.tasks.WorkerTask.{WorkerTask}
 use Rattle.task_workers.proofs.Crewed.{IsFilled, one_filled, worker_there}

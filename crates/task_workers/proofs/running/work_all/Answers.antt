@@ -1,6 +1,6 @@
 use Rattle.std.proofs.Common.{◌≡◌, ◌∙◌, false, List, length, map, sym, ap, subst, arith}
 use Rattle.std.proofs.lemmas.List.{length-map}
-use Rattle.k42_runtime.specs.Systems.{SystemPass}
+use Rattle.co_system.specs.Systems.{SystemPass}
 use Rattle.k42_workers.specs.Passes.{HaveWorked}
 use Rattle.k42_workers.proofs.Ended.{whole}
 use Rattle.k42_workers.proofs.Halved.{where_ok}

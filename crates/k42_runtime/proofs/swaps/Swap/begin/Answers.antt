@@ -12,10 +12,11 @@ use Rattle.k42_runtime.specs.declared.swaps.Stage.TheVariants.{New, Waiting, Mar
 use Rattle.k42_runtime.proofs.SwapBegins.{is_not, marks_on, waits_on, refused_by}
 use Rattle.k42_runtime.proofs.SwapEnds.{few}
 use Rattle.k42_runtime.proofs.SwapSteps.{stepped_before}
+use Rattle.k42_runtime.specs.Systems.{live_in}
 use Rattle.k42_runtime.proofs.swaps.Swap.begin.Goals as goal
 
 pub returns-in-Begun : goal.returns-in-Begun
-returns-in-Begun c =
+returns-in-Begun g c =
     let old = c.args.pass.now in
     let fresh : IsWornOut old.view → ⊥ = is_not c.is_worn_out.result c.if-is_worn_out.false c.is_worn_out.ensures in
     let s : SwapSeen = record { object = c.self.inside.object; to = c.self.inside.to; stage = c.self.inside.stage; holder = c.self.inside.grace } in
@@ -30,7 +31,7 @@ returns-in-Begun c =
     c.wait.ensures)
 
 pub returns-in-Busy : goal.returns-in-Busy
-returns-in-Busy c =
+returns-in-Busy g c =
     let old = c.args.pass.now in let new = c.draw_alone.new.pass in let number : ℕ = c.in-Busy.number in
     let fresh : IsWornOut old.view → ⊥ = is_not c.is_worn_out.result c.if-is_worn_out.false c.is_worn_out.ensures in
     let s : SwapSeen = record { object = c.self.inside.object; to = c.self.inside.to; stage = c.self.inside.stage; holder = c.self.inside.grace } in
@@ -40,7 +41,7 @@ returns-in-Busy c =
     let rests : IsAtRest new.view = search rules in
     let told =
     refused_by _ _ s.object old c.reserve.new.self c.begin.new.pass c.reserve.ensures.same c.begin.ensures.same c.begin.ensures.knows c.begin.ensures.begun new s.to number
-    c.draw_alone.ensures.drawer (later_stamp c.begin.new.pass.view [] c.draw_alone.result c.draw_alone.ensures.stamp c.draw_alone.ensures.later) drawn c.begin.result c.in-Busy.phase c.layouts_are_told.ensures.live c.begin.ensures.answer c.in-Busy.is in
+    c.draw_alone.ensures.drawer (later_stamp c.begin.new.pass.view [] c.draw_alone.result c.draw_alone.ensures.stamp c.draw_alone.ensures.later) drawn c.begin.result c.in-Busy.phase (live_in c.args.system.now.sys.shapes s.object) c.layouts_are_told.ensures.live c.begin.ensures.answer c.in-Busy.is in
     subst (λ s. HasStepped c.args.system.now c.over.result s c.over.new.self old new) is
     (subst (λ t. HasStepped c.args.system.now c.over.result s t old new) (sym (c.over.ensures.over ∙ ap (λ (x : SwapSeen). record x { stage = Over }) (sym is)))
     (subst (λ answer. HasStepped c.args.system.now answer s (record s { stage = Over }) old new) (sym c.over.ensures.ended)
@@ -61,7 +62,7 @@ returns-in-Busy c =
     })))
 
 pub returns-in-Spent : goal.returns-in-Spent
-returns-in-Spent c =
+returns-in-Spent g c =
     let old = c.args.pass.now in
     let fresh : IsWornOut old.view → ⊥ = is_not c.is_worn_out.result c.if-is_worn_out.false c.is_worn_out.ensures in
     let s : SwapSeen = record { object = c.self.inside.object; to = c.self.inside.to; stage = c.self.inside.stage; holder = c.self.inside.grace } in

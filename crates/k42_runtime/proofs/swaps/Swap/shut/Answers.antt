@@ -9,7 +9,7 @@ use Rattle.k42_runtime.proofs.SwapSteps.{stepped_before}
 use Rattle.k42_runtime.proofs.swaps.Swap.shut.Goals as goal
 
 pub returns-in-Moved : goal.returns-in-Moved
-returns-in-Moved c =
+returns-in-Moved g c =
     let moved = c.try_move.ensures.stepped in
     stepped_before c.args.system.now c.args.self.now c.args.self.now c.transfer_or_abandon.new.self c.args.pass.now c.try_move.new.pass c.transfer_or_abandon.new.pass
     (moves_on c.args.self.now c.args.pass.now c.try_move.new.pass (last_found c.try_move.new.pass.view.log) c.requires.stage moved.same moved.takes.knows
@@ -20,7 +20,7 @@ never : Shut ≡ New → ⊥
 never e = cc
 
 pub returns-in-InFlight : goal.returns-in-InFlight
-returns-in-InFlight c =
+returns-in-InFlight g c =
     let old = c.args.pass.now in let new = c.try_move.new.pass in let is = c.try_move.ensures in let moved = is.stepped in
     let found : ℕ = last_found new.view.log in
     let counted = in_flight found c.in-InFlight.count old.view new.view moved.takes.knows (sym is.answer ∙ c.in-InFlight.is) (is.in_flight c.in-InFlight.count c.in-InFlight.is) in

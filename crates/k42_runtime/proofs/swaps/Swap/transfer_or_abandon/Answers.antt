@@ -16,7 +16,7 @@ never : Shut ≡ New → ⊥
 never e = cc
 
 pub returns-then-is_err : goal.returns-then-is_err
-returns-then-is_err c =
+returns-then-is_err g c =
     let old = c.args.pass.now in let mid = c.transfer.new.pass in let new = c.abandon.new.pass in
     let is = c.self.view_is in let v = old.view in
     let kept : HasKept old mid = on_error c.transfer.result (sym c.is_err.ensures.value ∙ c.if-is_err.true) c.transfer.ensures.memory in
@@ -39,11 +39,11 @@ returns-then-is_err c =
       graces = few new.view.graces old.view.graces (graces_due c.args.self.now.stage c.args.self.now.holder) (abandoned_graces (Swap c.args.self.now.to) v mid.view new.view kept.comes.knows knows);
       told = tt;
       worn = (λ e. absurd (cc), λ w. absurd (never (sym c.requires.stage ∙ w.0)));
-      brought = inr (gave_up _ _ mid.seat c.args.self.now.object c.args.self.now.to v mid.view new.view kept.comes knows begun c.requires.found unturned swapped _ c.layout-to.ensures.act c.abandon.ensures.later c.abandon.ensures.up);
+      brought = inr (gave_up _ _ _ mid.seat c.args.self.now.object c.args.self.now.to v mid.view new.view kept.comes knows begun c.requires.found unturned swapped _ c.target-to.ensures.act c.abandon.ensures.later c.abandon.ensures.up);
     }
 
 pub returns : goal.returns
-returns c =
+returns g c =
     let old = c.args.pass.now in let new = c.end.new.pass in
     let done = on_done c.transfer.result (sym c.is_err.ensures.value ∙ c.if-is_err.false) c.transfer.ensures.done in
     let log : Extends old.view.log new.view.log =

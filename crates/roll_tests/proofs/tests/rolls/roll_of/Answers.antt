@@ -1,6 +1,6 @@
 use Rattle.std.proofs.Common.{List, subst}
 use Rattle.k42_places.specs.Places.{EachPlace}
-use Rattle.k42_runtime.specs.Systems.{SystemPass}
+use Rattle.co_system.specs.Systems.{SystemPass}
 use Rattle.swap_future.specs.Rolling.{MayRoll}
 use Rattle.roll_tests.proofs.tests.rolls.roll_of.Goals as goal
 

@@ -1,6 +1,6 @@
 use Rattle.std.proofs.Common.{IsSomeAnd, Option, sym, subst, ◌∙◌}
 use Rattle.k42_runtime.specs.Swaps.{HasStepped}
-use Rattle.k42_runtime.specs.Systems.{SystemPass}
+use Rattle.co_system.specs.Systems.{SystemPass}
 use Rattle.swap_future.specs.Polling.{IsGoing, Ends}
 use Rattle.swap_future.proofs.Polled.{ends_later}
 use Rattle.swap_future.proofs.polling.SwapFutureFuture.poll.Goals as goal

@@ -3,7 +3,7 @@ use Rattle.k42_board.specs.Seen.{SysSeen, IsOf}
 use Rattle.k42_board.specs.Taking.{MayLock}
 use Rattle.waiting_tests.proofs.Held.{may_lock_first}
 use Rattle.waiting_tests.proofs.tests.table.hold_first.Goals as goal
-use Rattle.k42_runtime.specs.Systems.{SystemLayout}
+use Rattle.co_system.specs.Systems.{SystemLayout}
 
 pub lock-requires-after_bounds : goal.lock-requires-after_bounds
 lock-requires-after_bounds g c κs =

@@ -1,0 +1,5 @@
+pub mod PackedBucketLemmas
+pub mod BucketSums
+pub mod PackedRouteLemmas
+pub mod Places
+pub mod Prefixes

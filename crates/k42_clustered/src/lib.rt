@@ -1,0 +1,6 @@
+//! What a system asks of the layouts of its objects.
+#![tactic(auto)]
+
+mod clustered;
+
+pub use clustered::Clustered;
