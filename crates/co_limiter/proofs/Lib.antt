@@ -3,3 +3,4 @@ pub mod BucketSums
 pub mod PackedRouteLemmas
 pub mod Places
 pub mod Prefixes
+pub mod LimiterExamples

@@ -1,5 +1,5 @@
 -- That a pass goes on with what it has under way is a proposition.
-use Rattle.std.proofs.Common.{ℕ, List, length, Option, Some, None}
+use Rattle.std.proofs.Common.{ℕ, List, Option, Some, None}
 use Rattle.std.proofs.Props.{props}
 use Rattle.k42_board.specs.declared.view.PassView.{PassView}
 use Rattle.k42_runtime.specs.Swaps.{SwapSeen, IsAtStage, IsWaiting}

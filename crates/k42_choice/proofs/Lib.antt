@@ -1,2 +1,3 @@
 pub mod OwnRows
 pub mod ChosenRows
+pub mod ChoiceExamples

@@ -243,6 +243,7 @@ impl<L: Clustered> System<L> {
         ensures works { IsAtWork pass.new.view }
         ensures ended { result ≡ Attempt.Ended → HasCalled object op.now reply.new pass.old.view pass.new.view }
         ensures again { result ≡ Attempt.Again → HasNotCalled pass.old.view pass.new.view }
+        ensures found { result ≡ Attempt.Again → (cause : CallCause) × HoldsUp cause object pass.old.view pass.new.view }
         ensures memory { result ≡ Attempt.Memory → HasNotCalled pass.old.view pass.new.view }
         ensures worn { (result ≡ Attempt.Worn) ↔ IsWorn pass.old.view }
         ensures kept { result ≡ Attempt.Worn → pass.new ≡ pass.old }

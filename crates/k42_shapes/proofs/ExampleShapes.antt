@@ -1,5 +1,5 @@
 -- Rows of eight processors: how many cells they have, who calls which, and who does not share one.
-use Rattle.std.proofs.Common.{◌≡◌, ℕ, true, ◌*◌, ◌+◌, ◌<◌, ◌≤◌, [], ◌∷◌, refl, arith}
+use Rattle.std.proofs.Common.{◌≡◌, true, refl, arith}
 use Rattle.k42_shapes.specs.declared.shape.Shape.TheVariants.{One, Each, Groups}
 use Rattle.k42_shapes.specs.Shapes.{cell_called, cells_of, AreTogether, IsKnownTag, IsLiveTag, is_dead_tag, shape_at, shared_and_spread}
 use Rattle.k42_shapes.proofs.ShapeLaws.{together_called}

@@ -1,9 +1,9 @@
 -- The processors share the cells of a row out.
-use Rattle.std.proofs.Common.{◌≡◌, ◌↔◌, ℕ, zero, suc, ◌+◌, ◌-◌, ◌*◌, ◌/◌, ◌%◌, ◌<◌, ◌≤◌, refl, sym, ap, ◌∙◌, subst, arith}
+use Rattle.std.proofs.Common.{◌≡◌, ℕ, zero, suc, ◌+◌, ◌-◌, ◌*◌, ◌/◌, ◌<◌, ◌≤◌, refl, sym, ap, ◌∙◌, subst, arith}
 use Rattle.std.proofs.lemmas.Nat.{div-add-mod', mod_below, div-mul-add, le-div, mul-le}
 use Rattle.k42_shapes.specs.declared.shape.Shape.{Shape}
 use Rattle.k42_shapes.specs.declared.shape.Shape.TheVariants.{One, Each, Groups}
-use Rattle.k42_shapes.specs.Shapes.{width_of, cell_called, cells_of, IsInGroup, AreInOneGroup, AreTogether, IsCalled}
+use Rattle.k42_shapes.specs.Shapes.{width_of, cell_called, cells_of, IsInGroup, AreTogether, IsCalled}
 
 pub width_some : (width : ℕ) → 0 < width_of width
 width_some zero = omega arith

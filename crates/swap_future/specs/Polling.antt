@@ -1,5 +1,5 @@
 -- A swap that is polled: where it goes on, what holds it up, and how it ends.
-use Rattle.std.specs.Prelude.{◌≡◌, ◌↔◌, ℕ, ◌+◌, ◌≤◌, false, length, Option, None, Result, Err, IfOk, IsSomeAnd}
+use Rattle.std.specs.Prelude.{◌≡◌, ◌↔◌, ℕ, ◌+◌, ◌≤◌, false, Option, None, Result, Err, IfOk, IsSomeAnd}
 use Rattle.k42_board.specs.Views.{word_begun}
 use Rattle.k42_runtime.specs.Swaps.{SwapSeen, IsAtStage, IsEndBy, IsSameCaller, IsWornOut, HasSwapped, HasStepped, StepsWithoutMemory, graces_due, is_over}
 use Rattle.co_system.specs.Systems.{SystemSeen, SystemPass, MayLead}
