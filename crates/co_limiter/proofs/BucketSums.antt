@@ -25,7 +25,7 @@ brought : (bucket : Bucket) (level : Level) (time : ℕ) (later : Bool) → (lat
 brought bucket level time true is = let more = is refl in record { given = omega arith; later = omega (arith, more) }
 brought bucket level time false is = record { given = omega arith; later = omega arith }
 
-one_limited : (bucket : Bucket) (level : Level) (op : BucketOp) → IsLimited bucket level (bucket_after bucket level op) (given op (bucket_reply level op))
+pub one_limited : (bucket : Bucket) (level : Level) (op : BucketOp) → IsLimited bucket level (bucket_after bucket level op) (given op (bucket_reply level op))
 one_limited bucket level (Take amount) = taken bucket level amount (nat_le amount level.left) (leb-true amount level.left)
 one_limited bucket level (Refill time) = brought bucket level time (nat_lt level.time time) (ltb-true level.time time)
 one_limited bucket level Left = record { given = omega arith; later = omega arith }

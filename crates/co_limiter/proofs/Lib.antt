@@ -4,3 +4,4 @@ pub mod PackedRouteLemmas
 pub mod Places
 pub mod Prefixes
 pub mod LimiterExamples
+pub mod LimitedHistories

@@ -6,7 +6,16 @@ use Rattle.co_limiter.specs.declared.bucket.BucketOp.TheVariants.{Take, Refill, 
 use Rattle.co_limiter.specs.declared.bucket.BucketReply.TheVariants as replies
 use Rattle.co_limiter.specs.declared.table.Route.{Route}
 use Rattle.co_limiter.specs.Buckets.{level_of, bucket_after, bucket_reply}
+use Rattle.k42_kinds.specs.declared.entry.Act.{Act}
+use Rattle.k42_kinds.specs.declared.entry.Act.TheVariants.{Call, Swap}
+use Rattle.k42_kinds.specs.declared.entry.Answer.{Answer}
+use Rattle.k42_kinds.specs.declared.entry.Answer.TheVariants.{Replied, Swapped}
+use Rattle.k42_kinds.specs.declared.entry.Entry.{Entry}
+use Rattle.k42_kinds.specs.declared.entry.To.TheVariants as tos
+use Rattle.co_limiter.specs.declared.bucket.BucketOp.{BucketOp}
+use Rattle.co_limiter.specs.declared.bucket.BucketReply.{BucketReply}
 use Rattle.co_limiter.specs.Given.{given_by}
+use Rattle.co_limiter.specs.GivenIn.{given_in, latest_in}
 use Rattle.co_limiter.specs.Routes.{hop_for, route_of, with_route, without}
 
 -- ten tokens at most, and two for each unit of time
@@ -39,6 +48,25 @@ calls_are_given_what_is_there = refl
 
 pub one_time_is_given_twice : given_by bucket (level_of 0 0) (Refill 2 ∷ Refill 2 ∷ Take 5 ∷ []) ≡ 5 → ⊥
 one_time_is_given_twice given = absurd (cc given)
+
+abbrev pub line : ℕ → Act BucketOp → Answer BucketReply → Entry BucketOp BucketReply
+line object act answer =
+    record { stamp = 0; index = 0; caller = 0; object = object; incarnation = 0; cell = 0; act = act; answer = answer; proc = 0; generation = None }
+
+-- object 0 gives seven tokens and no more, and object 1 two
+abbrev pub history : List (Entry BucketOp BucketReply)
+history =
+    line 0 (Call (Take 7)) (Replied replies.Granted) ∷ line 1 (Call (Take 2)) (Replied replies.Granted) ∷ line 0 (Swap (tos.Layout 1)) (Swapped 1)
+    ∷ line 0 (Call (Take 4)) (Replied replies.Refused) ∷ line 0 (Call (Refill 2)) (Replied replies.Done) ∷ []
+
+pub each_object_gives_its_own : given_in 0 history ≡ 7
+each_object_gives_its_own = refl
+
+pub the_latest_time_is_told : latest_in 0 history ≡ 2
+the_latest_time_is_told = refl
+
+pub a_refused_call_is_given : given_in 0 history ≡ 11 → ⊥
+a_refused_call_is_given same = absurd (cc same)
 
 -- 10.0.0.0/8 by hop 1, and 10.1.0.0/16 by hop 2
 abbrev pub routes : List Route

@@ -6,3 +6,4 @@ pub mod Routes
 pub mod RouteLaws
 pub mod Longest
 pub mod PackedRoutes
+pub mod GivenIn

@@ -3,6 +3,7 @@
 
 mod bucket;
 mod bucket_packed;
+mod histories;
 mod limits;
 mod longest;
 mod routing;
@@ -11,6 +12,7 @@ mod table;
 mod ways;
 
 pub use bucket::{Bucket, BucketOp, BucketReply, Level};
+pub use histories::histories_are_limited;
 pub use limits::bucket_limits;
 pub use longest::longest_prefix_is_found;
 pub use routing::{RouteOp, RouteReply, Routing};

@@ -1,0 +1,5 @@
+use Rattle.k42_crews.specs.Ready.{StaysFree}
+use Rattle.ways_example.proofs.turns.call_often.Given as goal
+
+abbrev pub invariant-loop : goal.invariant-loop
+invariant-loop g l = StaysFree l.system l.initial.pass l.pass
