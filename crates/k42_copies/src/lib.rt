@@ -10,4 +10,4 @@ mod spacing;
 pub use copies::Copies;
 pub use replica::Replica;
 pub use replicated::Replicated;
-pub use spacing::{Apart, InPairs, Spacing, Together};
+pub use spacing::{Apart, InFours, InPairs, Spacing, Together};
