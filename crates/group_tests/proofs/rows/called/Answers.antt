@@ -17,7 +17,8 @@ module _ (g : given.Over) (way : g.row.W.Denot) (procs proc : ℕ) (row : List g
   there part value =
       let laws = g.met.W.Way g.world.𝓛 g.world.𝓜 g.world.𝓡 ((λ s x. x), (λ x. x), (λ x. x), λ x. x) in
       part_there row cell part
-      (cell_there (cells_of (g.W.Way.shape_of way) procs) cell ((g.W.Way.ways way).reach procs op proc) row (laws.reaches way procs proc op in_range takes) reach (laws.stands way procs row (omega (arith, in_range)) whole).sized)
+      (cell_there (cells_of (g.W.Way.shape_of way) procs) cell ((g.W.Way.ways way).reach procs op proc) row
+      (laws.reaches way procs proc op in_range takes) reach (laws.stands way procs row (omega (arith, in_range)) whole).sized)
       value
 
   -- the step at the cell is the object's
@@ -37,13 +38,15 @@ step_one-requires-clause-reached g c =
       known = c.requires.known.0;
       whole = c.requires.row;
       needed = reach;
-      there = there g c.args.way.now c.args.procs c.args.proc c.args.row.now.items c.args.op.now c.in-One.cell reach c.requires.known.0 c.requires.takes c.requires.row c.index_mut.result.now c.index_mut.ensures.value;
+      there = there g c.args.way.now c.args.procs c.args.proc c.args.row.now.items c.args.op.now c.in-One.cell
+          reach c.requires.known.0 c.requires.takes c.requires.row c.index_mut.result.now c.index_mut.ensures.value;
     }
 
 pub returns-in-One : goal.returns-in-One
 returns-in-One g c =
     let reach = sym c.reach.ensures ∙ c.in-One.is in
-    let is = there g c.args.way.now c.args.procs c.args.proc c.args.row.now.items c.args.op.now c.in-One.cell reach c.requires.known.0 c.requires.takes c.requires.row c.index_mut.result.now c.index_mut.ensures.value in
+    let is = there g c.args.way.now c.args.procs c.args.proc c.args.row.now.items c.args.op.now c.in-One.cell
+    reach c.requires.known.0 c.requires.takes c.requires.row c.index_mut.result.now c.index_mut.ensures.value in
     let stepped = steps g c.args.way.now c.args.procs c.args.proc c.args.row.now.items c.args.op.now c.in-One.cell reach c.requires.known.0 c.requires.takes c.requires.row in
-    whole_after_one (g.W.Kind.object c.args.way.now) (g.W.Way.ways c.args.way.now) (g.W.Way.whole c.args.way.now c.args.procs) c.args.row.now.items c.args.op.now c.in-One.cell c.index_mut.result.now c.step_one.new.part is stepped
-    c.step_one.result c.requires.row c.step_one.ensures.moved c.step_one.ensures.memory
+    whole_after_one (g.W.Kind.object c.args.way.now) (g.W.Way.ways c.args.way.now) (g.W.Way.whole c.args.way.now c.args.procs) c.args.row.now.items c.args.op.now
+    c.in-One.cell c.index_mut.result.now c.step_one.new.part is stepped c.step_one.result c.requires.row c.step_one.ensures.moved c.step_one.ensures.memory
