@@ -1,15 +1,17 @@
 //! An object kept as copies of its whole state, for kinds that tell which of their operations only read.
 #![tactic(auto)]
 
+mod any_copies;
 mod copies;
 mod replica;
 mod replicated;
 mod row;
+mod spaced;
 mod spacing;
-mod three_ways;
 
+pub use any_copies::AnyCopies;
 pub use copies::Copies;
 pub use replica::Replica;
 pub use replicated::Replicated;
-pub use spacing::{Apart, InPairs, Spacing, Together};
-pub use three_ways::{ThreeWays, in_three_ways};
+pub use spaced::Spaced;
+pub use spacing::{Apart, InFours, InPairs, Spacing, Together};

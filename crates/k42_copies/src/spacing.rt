@@ -20,6 +20,10 @@ pub struct Together;
 #[derive(Clone, Copy, Debug, PartialEq, Eq)]
 pub struct InPairs;
 
+/// A copy for each four neighbouring processors.
+#[derive(Clone, Copy, Debug, PartialEq, Eq)]
+pub struct InFours;
+
 /// A copy for each processor.
 #[derive(Clone, Copy, Debug, PartialEq, Eq)]
 pub struct Apart;
@@ -37,6 +41,14 @@ impl Spacing for InPairs {
 
     fn shape() -> Shape {
         Shape::Groups(2)
+    }
+}
+
+impl Spacing for InFours {
+    ghost shape = { Groups 4 };
+
+    fn shape() -> Shape {
+        Shape::Groups(4)
     }
 }
 

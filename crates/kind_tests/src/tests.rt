@@ -2,7 +2,6 @@
 mod any;
 mod counters;
 mod directories;
-mod groups;
 mod kinds;
 mod merges;
 mod pages;

@@ -1,15 +1,19 @@
 //! The tokens of one bucket.
-ghost use Rattle.std.specs.Prelude.{◌≡◌, ◌≤◌, ◌<◌, ◌%◌, ◌^◌, ℕ, IfOk, IfSome};
+ghost use Rattle.std.specs.Prelude.{◌≡◌, ◌≤◌, ◌<◌, ◌%◌, ◌^◌, [], ◌∷◌, IfOk, IfSome};
+ghost use Rattle.k42_board.specs.declared.keep.Keep.TheVariants.{All};
+ghost use Rattle.k42_crews.specs.Ready.{AreFree};
 ghost use Rattle.co_limiter.specs.GivenIn.{given_at, given_in, mortal_bucket};
-ghost use Rattle.k42_kinds.specs.declared.entry.To.TheVariants as To;
 
-use crate::run::run;
+use crate::crew::work_all;
+use crate::ends::{begin, end};
 use crate::turns::Turns;
 use co_limiter::{Bucket, BucketOp, BucketReply, Level, histories_are_limited};
-use k42_choice::MortalState;
+use k42_choice::{Mortal, MortalState};
 use k42_clustered::Clustered;
+use k42_copies::{AnyCopies, Spaced};
 use k42_kinds::{Act, Answer, Entry};
 use k42_memory::Memory;
+use k42_runtime::{Pass, System};
 use std::alloc::Global;
 use std::sync::Wait;
 use std::thread::Threads;
@@ -40,27 +44,50 @@ fn all_tokens(entries: &[Entry<BucketOp, BucketReply>]) -> u64
     sum
 }
 
-/// How many tokens a bucket to which no time brings any gives three threads, while a fourth has it kept in one way after
-/// another, and how many entries the history has.
-pub(crate) fn run_bucket<
-    L: Clustered<State = MortalState<Level>, Op = BucketOp, Reply = BucketReply>,
-    R: Threads + Wait + Sync,
->(
-    rt: &R,
+/// How many tokens the calls were given, and how many entries the history has. No time has brought any.
+fn granted<L: Clustered<State = MortalState<Level>, Op = BucketOp, Reply = BucketReply>>(
     alloc: Global,
+    system: System<L>,
+    passes: Vec<Pass<L>>,
     bucket: &Bucket,
     layout: L,
-    turns: &Turns<BucketOp>,
 ) -> Result<Option<(u64, usize)>, Memory>
-    requires kept { L.object layout ≡ mortal_bucket bucket.now }
+    requires free { AreFree system passes.items }
+    requires keeps { system.plan.keep ≡ All }
+    requires object { system.plan.objects ≡ layout ∷ [] }
+    requires bucket { L.object layout ≡ mortal_bucket bucket.now }
     requires still { bucket.now.rate ≡ 0 }
-    requires some { 0 < turns.now.ways }
-    requires leads { (way : ℕ) → way < turns.now.ways → L.leads layout (To.Layout way) }
-    ensures limited { IfOk result (λ ran. IfSome ran (λ told. told.0 ≤ bucket.now.capacity)) }
+    ensures limited { IfOk result (λ told. IfSome told (λ it. it.0 ≤ bucket.now.capacity)) }
 {
-    let Some(entries) = run(rt, alloc, layout, turns)? else {
+    let Some(entries) = end(alloc, system, passes)? else {
         return Ok(None);
     };
     histories_are_limited::<L>();
     Ok(Some((all_tokens(&entries), entries.len())))
+}
+
+/// The same of a bucket of which three threads take tokens, while a fourth has it kept in one way after another.
+pub(crate) fn run_bucket<R: Threads + Wait + Sync>(
+    rt: &R,
+    alloc: Global,
+    bucket: &Bucket,
+    turns: &Turns<BucketOp>,
+) -> Result<Option<(u64, usize)>, Memory>
+    requires still { bucket.now.rate ≡ 0 }
+    requires some { 0 < turns.now.ways }
+    requires few { turns.now.ways ≤ 4 }
+    ensures limited { IfOk result (λ told. IfSome told (λ it. it.0 ≤ bucket.now.capacity)) }
+{
+    let layout = Mortal {
+        layout: AnyCopies {
+            kind: *bucket,
+            spaced: Spaced::Together,
+        },
+        dead: false,
+    };
+    let Some((system, mut passes)) = begin(alloc, layout)? else {
+        return Ok(None);
+    };
+    work_all(rt, alloc, &system, turns, passes.as_mut_slice())?;
+    granted(alloc, system, passes, bucket, layout)
 }

@@ -1,16 +1,15 @@
-//! Objects of one's own: three threads take the tokens of one bucket, while a fourth has it kept in one way after another.
+//! An object of one's own: three threads take the tokens of one bucket, while a fourth has it kept in one way after another.
 #![tactic(auto)]
 
 mod bucket;
 mod crew;
-mod run;
+mod ends;
+mod kept;
 mod turns;
 
 use crate::bucket::run_bucket;
 use crate::turns::Turns;
 use co_limiter::{Bucket, BucketOp};
-use k42_choice::Mortal;
-use k42_copies::in_three_ways;
 use k42_memory::Memory;
 use std::process::ExitCode;
 
@@ -19,17 +18,13 @@ fn main(rt: HostRuntime) -> ExitCode {
         capacity: 100,
         rate: 0,
     };
-    let layout = Mortal {
-        layout: in_three_ways(bucket),
-        dead: false,
-    };
     let turns = Turns {
-        ways: 3,
+        ways: 4,
         swaps: 200,
         op: BucketOp::Take(1),
         calls: 50,
     };
-    match run_bucket(&rt, rt.alloc(), &bucket, layout, &turns) {
+    match run_bucket(&rt, rt.alloc(), &bucket, &turns) {
         Ok(Some((granted, entries))) => {
             let printed = println!(rt; "granted {granted}, entries {entries}");
             ExitCode::from(u8::from(printed.is_err()))

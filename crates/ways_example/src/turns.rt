@@ -19,7 +19,7 @@ pub(crate) const OBJECT: u32 = 0;
 #[derive(Drop)]
 pub(crate) struct Turns<O> {
     /// How many ways the object has, and some.
-    pub(crate) ways: u32,
+    pub(crate) ways: u8,
     pub(crate) swaps: u32,
     pub(crate) op: O,
     pub(crate) calls: u32,
@@ -30,17 +30,18 @@ fn swap_round<L: Clustered, R: Wait>(
     rt: &R,
     alloc: Global,
     system: &System<L>,
-    pass: &mut Pass<L>,
     turns: &Turns<L::Op>,
+    pass: &mut Pass<L>,
 ) -> Result<(), Memory>
     requires free { IsFree system.now pass.old }
     requires some { 0 < turns.now.ways }
     requires leads { (way : ℕ) → way < turns.now.ways → MayLead L.leads system.now.plan.objects OBJECT (To.Layout way) }
     ensures { StaysFree system.now pass.old pass.new }
 {
-    for number in 0..turns.swaps {
-        let way = number % turns.ways;
-        swap_once(rt, alloc, system, pass, OBJECT, way as u8).map_err(|_| Memory)?;
+    let mut way = 0u8;
+    for _ in 0..turns.swaps {
+        swap_once(rt, alloc, system, pass, OBJECT, way).map_err(|_| Memory)?;
+        way = if turns.ways - way > 1 { way + 1 } else { 0 };
     }
     Ok(())
 }
@@ -50,8 +51,8 @@ fn call_often<L: Clustered, R: Wait>(
     rt: &R,
     alloc: Global,
     system: &System<L>,
-    pass: &mut Pass<L>,
     turns: &Turns<L::Op>,
+    pass: &mut Pass<L>,
 ) -> Result<(), Memory>
 where
     L::Op: Copy,
@@ -69,8 +70,8 @@ pub(crate) fn work<L: Clustered, R: Wait>(
     rt: &R,
     alloc: Global,
     system: &System<L>,
-    pass: &mut Pass<L>,
     turns: &Turns<L::Op>,
+    pass: &mut Pass<L>,
 ) -> Result<(), Memory>
 where
     L::Op: Copy,
@@ -80,8 +81,8 @@ where
     ensures { StaysFree system.now pass.old pass.new }
 {
     if pass.caller() == 0 {
-        swap_round(rt, alloc, system, pass, turns)
+        swap_round(rt, alloc, system, turns, pass)
     } else {
-        call_often(rt, alloc, system, pass, turns)
+        call_often(rt, alloc, system, turns, pass)
     }
 }

@@ -1,0 +1,2 @@
+pub mod ReachedParts
+pub mod GroupExamples

@@ -1,0 +1,48 @@
+//! How a system of one object begins and ends.
+ghost use Rattle.std.specs.Prelude.{◌≡◌, [], ◌∷◌, IfOk, IfSome};
+ghost use Rattle.k42_board.specs.declared.keep.Keep.TheVariants.{All};
+ghost use Rattle.k42_crews.specs.Ready.{AreFree};
+ghost use Rattle.k42_kinds.specs.Legal.{IsLegalHistoryOf};
+
+use k42_clustered::Clustered;
+use k42_crews::{close, start};
+use k42_kinds::Entry;
+use k42_memory::Memory;
+use k42_runtime::{Keep, Pass, Plan, System};
+use std::alloc::Global;
+
+/// A system of an object that starts in this layout, and four passes on four processors. There is none where no system has
+/// such an object.
+pub(crate) fn begin<L: Clustered>(
+    alloc: Global,
+    layout: L,
+) -> Result<Option<(System<L>, Vec<Pass<L>>)>, Memory>
+    ensures free { IfOk result (λ begun. IfSome begun (λ made. AreFree made.0 made.1.items)) }
+    ensures keeps { IfOk result (λ begun. IfSome begun (λ made. made.0.plan.keep ≡ All)) }
+    ensures object { IfOk result (λ begun. IfSome begun (λ made. made.0.plan.objects ≡ layout ∷ [])) }
+{
+    let mut objects = Vec::new(alloc);
+    objects.push(layout)?;
+    let processors = vec![in alloc; 0u32, 1u32, 2u32, 3u32]?;
+    let Ok(plan) = Plan::new(4, objects, processors, Keep::All) else {
+        return Ok(None);
+    };
+    let (system, passes) = start(alloc, plan)?;
+    Ok(Some((system, passes)))
+}
+
+/// The history that the passes leave. There is none where they are not all there.
+pub(crate) fn end<L: Clustered>(
+    alloc: Global,
+    system: System<L>,
+    passes: Vec<Pass<L>>,
+) -> Result<Option<Vec<Entry<L::Op, L::Reply>>>, Memory>
+    requires free { AreFree system passes.items }
+    requires keeps { system.plan.keep ≡ All }
+    ensures legal { IfOk result (λ ended. IfSome ended (λ entries. IsLegalHistoryOf L.object system.plan.objects entries.items)) }
+{
+    match close(alloc, system, passes)? {
+        Some(history) => Ok(Some(history.collect(alloc)?)),
+        None => Ok(None),
+    }
+}
