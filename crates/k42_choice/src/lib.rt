@@ -15,3 +15,4 @@ pub use living::Living;
 pub use mortal::{Mortal, MortalPart, MortalState};
 pub use only::Only;
 pub use way::Way;
+pub use within::{Within, among, put_back, taken};

@@ -7,7 +7,7 @@ use std::alloc::Global;
 use std::mem::replace;
 
 /// How parts stand among others.
-pub(crate) trait Within {
+pub trait Within {
     type Own: Drop;
 
     type Among: Drop;
@@ -38,7 +38,7 @@ fn take_out<W: Within>(parts: Vec<W::Among>, own: &mut Vec<W::Own>)
 }
 
 /// All parts, taken out; what is left has room for them. Want of memory leaves them.
-pub(crate) fn taken<W: Within>(
+pub fn taken<W: Within>(
     alloc: Global,
     parts: &mut Vec<W::Among>,
 ) -> Result<Vec<W::Own>, Memory>
@@ -54,7 +54,7 @@ pub(crate) fn taken<W: Within>(
 }
 
 /// Puts them behind those that are there.
-pub(crate) fn put_back<W: Within>(own: Vec<W::Own>, parts: &mut Vec<W::Among>)
+pub fn put_back<W: Within>(own: Vec<W::Own>, parts: &mut Vec<W::Among>)
     requires { vec_len parts.old + vec_len own ≤ vec_capacity parts.old }
     ensures { parts.new.items ≡ parts.old.items ++ map W.side.part_of own.items }
 {
@@ -64,7 +64,7 @@ pub(crate) fn put_back<W: Within>(own: Vec<W::Own>, parts: &mut Vec<W::Among>)
 }
 
 /// The parts, each where it stands.
-pub(crate) fn among<W: Within>(alloc: Global, own: Vec<W::Own>) -> Result<Vec<W::Among>, Memory>
+pub fn among<W: Within>(alloc: Global, own: Vec<W::Own>) -> Result<Vec<W::Among>, Memory>
     ensures { IfOk result (λ parts. parts.items ≡ map W.side.part_of own.items) }
 {
     let mut parts = Vec::with_capacity(alloc, own.len())?;

@@ -1,0 +1,5 @@
+//! Tests of layouts of two kinds as those of one type.
+#![tactic(auto)]
+
+#[cfg(test)]
+mod tests;

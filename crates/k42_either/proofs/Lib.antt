@@ -1,0 +1,4 @@
+pub mod PackedEithers
+pub mod LowTags
+pub mod EitherExamples
+pub mod EitherParts

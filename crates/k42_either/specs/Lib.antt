@@ -1,0 +1,4 @@
+pub mod Eithers
+pub mod EitherPackings
+pub mod EitherRows
+pub mod EitherLaws
