@@ -1,2 +1,3 @@
 pub mod Grouped
 pub mod GroupedLaws
+pub mod SpacedGroups
