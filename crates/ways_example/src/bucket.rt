@@ -4,10 +4,12 @@ ghost use Rattle.k42_board.specs.declared.keep.Keep.TheVariants.{All};
 ghost use Rattle.k42_crews.specs.Ready.{AreFree};
 ghost use Rattle.co_limiter.specs.GivenIn.{given_at, given_in, mortal_bucket};
 
-use crate::crew::work_all;
+mod crew;
+
 use crate::ends::{begin, end};
 use crate::turns::Turns;
 use co_limiter::{Bucket, BucketOp, BucketReply, Level, histories_are_limited};
+use crew::work_all;
 use k42_choice::{Mortal, MortalState};
 use k42_clustered::Clustered;
 use k42_copies::{AnyCopies, Spaced};

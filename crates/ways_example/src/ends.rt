@@ -1,17 +1,19 @@
 //! How a system of one object begins and ends.
 ghost use Rattle.std.specs.Prelude.{◌≡◌, [], ◌∷◌, IfOk, IfSome};
 ghost use Rattle.k42_board.specs.declared.keep.Keep.TheVariants.{All};
-ghost use Rattle.k42_crews.specs.Ready.{AreFree};
+ghost use Rattle.k42_crews.specs.Ready.{AreFree, callers_of};
 ghost use Rattle.k42_kinds.specs.Legal.{IsLegalHistoryOf};
 
+use crate::turns::OBJECT;
 use k42_clustered::Clustered;
-use k42_crews::{close, start};
+use k42_crews::{call_once, close, start};
 use k42_kinds::Entry;
 use k42_memory::Memory;
 use k42_runtime::{Keep, Pass, Plan, System};
 use std::alloc::Global;
+use std::sync::Wait;
 
-/// A system of an object that starts in this layout, and four passes on four processors. There is none where no system has
+/// A system of an object that starts in this layout, and four passes on four of eight processors. There is none where no system has
 /// such an object.
 pub(crate) fn begin<L: Clustered>(
     alloc: Global,
@@ -23,12 +25,30 @@ pub(crate) fn begin<L: Clustered>(
 {
     let mut objects = Vec::new(alloc);
     objects.push(layout)?;
-    let processors = vec![in alloc; 0u32, 1u32, 2u32, 3u32]?;
-    let Ok(plan) = Plan::new(4, objects, processors, Keep::All) else {
+    let processors = vec![in alloc; 0u32, 2u32, 5u32, 7u32]?;
+    let Ok(plan) = Plan::new(8, objects, processors, Keep::All) else {
         return Ok(None);
     };
     let (system, passes) = start(alloc, plan)?;
     Ok(Some((system, passes)))
+}
+
+/// What the first pass is replied.
+pub(crate) fn ask<L: Clustered, R: Wait>(
+    rt: &R,
+    alloc: Global,
+    system: &System<L>,
+    passes: &mut [Pass<L>],
+    op: L::Op,
+) -> Result<Option<L::Reply>, Memory>
+    requires { AreFree system.now passes.old }
+    ensures free { AreFree system.now passes.new }
+    ensures callers { callers_of passes.new ≡ callers_of passes.old }
+{
+    match passes.split_first_mut() {
+        Some((pass, _)) => call_once(rt, alloc, system, pass, OBJECT, op).map_err(|_| Memory),
+        None => Ok(None),
+    }
 }
 
 /// The history that the passes leave. There is none where they are not all there.

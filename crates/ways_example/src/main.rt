@@ -1,32 +1,61 @@
-//! An object of one's own: three threads take the tokens of one bucket, while a fourth has it kept in one way after another.
+//! Objects of one's own: three threads call a bucket, and then a counter, while a fourth has it kept in one way after
+//! another.
 #![tactic(auto)]
 
 mod bucket;
-mod crew;
+mod counter;
 mod ends;
 mod kept;
 mod turns;
 
 use crate::bucket::run_bucket;
+use crate::counter::run_counter;
 use crate::turns::Turns;
 use co_limiter::{Bucket, BucketOp};
+use k42_kinds::Op;
 use k42_memory::Memory;
+use std::alloc::Global;
 use std::process::ExitCode;
+use std::sync::Wait;
+use std::thread::Threads;
 
-fn main(rt: HostRuntime) -> ExitCode {
+/// How many of 150 tokens a bucket of 100 has given, and the value of a counter to which 3,000 were added, each with the
+/// number of its entries.
+fn run<R: Threads + Wait + Sync>(
+    rt: &R,
+    alloc: Global,
+) -> Result<Option<[(u64, usize); 2]>, Memory> {
     let bucket = Bucket {
         capacity: 100,
         rate: 0,
     };
-    let turns = Turns {
+    let takes = Turns {
         ways: 4,
         swaps: 200,
         op: BucketOp::Take(1),
         calls: 50,
     };
-    match run_bucket(&rt, rt.alloc(), &bucket, &turns) {
-        Ok(Some((granted, entries))) => {
-            let printed = println!(rt; "granted {granted}, entries {entries}");
+    let Some(given) = run_bucket(rt, alloc, &bucket, &takes)? else {
+        return Ok(None);
+    };
+    let adds = Turns {
+        ways: 4,
+        swaps: 200,
+        op: Op::Add(1),
+        calls: 1_000,
+    };
+    let Some(counted) = run_counter(rt, alloc, &adds)? else {
+        return Ok(None);
+    };
+    Ok(Some([given, counted]))
+}
+
+fn main(rt: HostRuntime) -> ExitCode {
+    match run(&rt, rt.alloc()) {
+        Ok(Some([(given, takes), (value, adds)])) => {
+            let printed = println!(rt;
+                "given {given}, entries {takes}; counted {value}, entries {adds}"
+            );
             ExitCode::from(u8::from(printed.is_err()))
         }
         Ok(None) => ExitCode::from(1),

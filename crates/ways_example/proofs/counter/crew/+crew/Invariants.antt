@@ -1,5 +1,5 @@
 use Rattle.std.proofs.Common.{◌+◌, ◌*◌, length}
-use Rattle.ways_example.proofs.crew.+crew.Given as goal
+use Rattle.ways_example.proofs.counter.crew.+crew.Given as goal
 
 abbrev pub decreases-work_all : goal.decreases-work_all
 decreases-work_all g l = 3 * length l.passes.now
