@@ -10,8 +10,7 @@ use crate::seat::Seat;
 use std::alloc::Global;
 use std::mem::replace;
 
-/// Takes the seat out, and leaves the handle empty. Its pointer stays there and means nothing: whoever takes a seat out
-/// puts one in again, or clears the handle.
+/// Takes the seat out, and leaves the handle empty.
 #[inline(always)]
 pub(crate) fn take(alloc: Global, handle: &mut K42Pass) -> Option<Box<Seat, Global>>
     ensures taken { MatchOption result (seat_of handle.old ≡ seats.Gone) (λ held. held.value ≡ seat_of handle.old) }
@@ -20,10 +19,11 @@ pub(crate) fn take(alloc: Global, handle: &mut K42Pass) -> Option<Box<Seat, Glob
     if handle.full != 1 {
         return None;
     }
+    let none = handle.none;
     let empty = K42Pass {
         full: 0,
-        none: handle.none,
-        inner: handle.inner.outworn(alloc),
+        none,
+        inner: Inner::empty(none, alloc),
     };
     let K42Pass { inner, .. } = replace(handle, empty);
     Some(inner.into_parts().into_box())
@@ -47,24 +47,13 @@ pub(crate) fn put(handle: &mut K42Pass, seat: Box<Seat, Global>)
     );
 }
 
-/// Leaves no pointer of ours in an empty handle.
-fn clear(alloc: Global, handle: &mut K42Pass)
-    requires { seat_of handle.old ≡ seats.Gone }
-    ensures { seat_of handle.new ≡ seats.Gone }
-{
-    handle.inner = Inner::empty(handle.none, alloc);
-}
-
-/// Puts the seat into a handle that is empty, unless it is gone.
-pub(crate) fn settle(alloc: Global, handle: &mut K42Pass, seat: Box<Seat, Global>)
+/// The same, unless it is gone.
+pub(crate) fn settle(handle: &mut K42Pass, seat: Box<Seat, Global>)
     requires { seat_of handle.old ≡ seats.Gone }
     ensures { seat_of handle.new ≡ seat.value }
 {
     match seat.as_ref() {
-        Seat::Gone => {
-            drop(seat);
-            clear(alloc, handle);
-        }
+        Seat::Gone => drop(seat),
         _ => put(handle, seat),
     }
 }
