@@ -38,10 +38,7 @@ fn take_out<W: Within>(parts: Vec<W::Among>, own: &mut Vec<W::Own>)
 }
 
 /// All parts, taken out; what is left has room for them. Want of memory leaves them.
-pub fn taken<W: Within>(
-    alloc: Global,
-    parts: &mut Vec<W::Among>,
-) -> Result<Vec<W::Own>, Memory>
+pub fn taken<W: Within>(alloc: Global, parts: &mut Vec<W::Among>) -> Result<Vec<W::Own>, Memory>
     ensures taken { IfOk result (λ own. own.items ≡ own_parts W.side parts.old.items) }
     ensures empty { OnOk result (parts.new.items ≡ []) }
     ensures room { OnOk result (vec_len parts.old ≤ vec_capacity parts.new) }

@@ -45,10 +45,10 @@ pub(crate) fn ask<L: Clustered, R: Wait>(
     ensures free { AreFree system.now passes.new }
     ensures callers { callers_of passes.new ≡ callers_of passes.old }
 {
-    match passes.split_first_mut() {
-        Some((pass, _)) => call_once(rt, alloc, system, pass, OBJECT, op).map_err(|_| Memory),
-        None => Ok(None),
-    }
+    let Some((pass, _others)) = passes.split_first_mut() else {
+        return Ok(None);
+    };
+    call_once(rt, alloc, system, pass, OBJECT, op).map_err(|_| Memory)
 }
 
 /// The history that the passes leave. There is none where they are not all there.

@@ -19,40 +19,40 @@ use std::process::ExitCode;
 use std::sync::Wait;
 use std::thread::Threads;
 
-/// How many of 150 tokens a bucket of 100 has given, and the value of a counter to which 3,000 were added, each with the
-/// number of its entries.
+/// How many of 150 tokens a bucket of 100 has given and how many entries its history has, and the same of the value of a
+/// counter to which 3,000 were added.
 fn run<R: Threads + Wait + Sync>(
     rt: &R,
     alloc: Global,
-) -> Result<Option<[(u64, usize); 2]>, Memory> {
+) -> Result<Option<(u64, usize, u64, usize)>, Memory> {
     let bucket = Bucket {
         capacity: 100,
         rate: 0,
     };
-    let takes = Turns {
+    let taking = Turns {
         ways: 4,
         swaps: 200,
         op: BucketOp::Take(1),
         calls: 50,
     };
-    let Some(given) = run_bucket(rt, alloc, &bucket, &takes)? else {
+    let Some((given, takes)) = run_bucket(rt, alloc, &bucket, &taking)? else {
         return Ok(None);
     };
-    let adds = Turns {
+    let adding = Turns {
         ways: 4,
         swaps: 200,
         op: Op::Add(1),
         calls: 1_000,
     };
-    let Some(counted) = run_counter(rt, alloc, &adds)? else {
+    let Some((value, adds)) = run_counter(rt, alloc, &adding)? else {
         return Ok(None);
     };
-    Ok(Some([given, counted]))
+    Ok(Some((given, takes, value, adds)))
 }
 
 fn main(rt: HostRuntime) -> ExitCode {
     match run(&rt, rt.alloc()) {
-        Ok(Some([(given, takes), (value, adds)])) => {
+        Ok(Some((given, takes, value, adds))) => {
             let printed = println!(rt;
                 "given {given}, entries {takes}; counted {value}, entries {adds}"
             );
