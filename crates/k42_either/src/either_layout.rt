@@ -203,7 +203,8 @@ where
     ghost steps = { elim [
       | First layout ↦ λ procs proc row op known there takes kept. laws.among_steps laws.the_first (First A.Reply.gone) (A.object layout) (A.ways layout) (A.whole layout) procs proc row op takes kept
           (λ own taken. A.steps layout procs proc _ own known there taken kept.whole)
-      | Second layout ↦ λ procs proc row op known there takes kept. laws.among_steps laws.the_second (First A.Reply.gone) (B.object layout) (B.ways layout) (B.whole layout) procs proc row op takes kept
+      | Second layout ↦ λ procs proc row op known there takes kept. laws.among_steps laws.the_second (First A.Reply.gone) (B.object layout) (B.ways layout) (B.whole layout)
+          procs proc row op takes kept
           (λ own taken. B.steps layout procs proc _ own known there taken kept.whole)
     ] };
 
