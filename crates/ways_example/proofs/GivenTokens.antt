@@ -1,5 +1,5 @@
 -- A bucket to which no time brings any tokens gives no more than it holds.
-use Rattle.std.proofs.Common.{◌≡◌, ℕ, ◌+◌, ◌*◌, ◌%◌, ◌^◌, ◌≤◌, refl, ap, ◌∙◌, arith}
+use Rattle.std.proofs.Common.{◌≡◌, ℕ, ◌+◌, ◌*◌, ◌%◌, ◌^◌, ◌≤◌, ap, ◌∙◌, arith}
 
 nothing_brought : (rate latest : ℕ) → rate ≡ 0 → rate * latest ≡ 0
 nothing_brought rate latest still = ap (λ r. r * latest) still ∙ (omega arith)

@@ -1,4 +1,4 @@
-use Rattle.std.proofs.Common.{rules, ◌%◌, [], ◌∷◌, ◌≡◌, List, refl, subst, ap, ◌∙◌}
+use Rattle.std.proofs.Common.{rules, ◌%◌, [], ◌∷◌, List, refl, subst, ap, ◌∙◌}
 use Rattle.k42_kinds.specs.Legal.{IsLegalHistoryOf}
 use Rattle.co_limiter.specs.GivenIn.{given_in, latest_in}
 use Rattle.ways_example.proofs.GivenTokens.{no_more}
