@@ -5,12 +5,14 @@
 #include "seeing.h"
 
 #include <stdio.h>
+#include <string.h>
 #include <unistd.h>
 
 enum { MADE = 54321 };
 static const uint64_t MOST = (uint64_t)1 << 58;
 
 static k42_pass pass;
+static const k42_pass untouched; /* as a handle is before it is used, and once it has nothing more */
 
 static uint32_t start(void) {
     static const k42_object objects[OBJECTS] = {
@@ -32,6 +34,7 @@ static void see_closed(void) {
     begin("k42_leave, k42_close");
     see(k42_leave(&pass), K42_DONE);
     see(k42_close(&pass, &missing), K42_DONE);
+    wrong = memcmp(&pass, &untouched, sizeof pass) != 0 || wrong;
     end();
 }
 

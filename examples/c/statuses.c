@@ -5,6 +5,7 @@
 
 #include <pthread.h>
 #include <stdio.h>
+#include <string.h>
 
 enum { PASSES = 3 };
 
@@ -105,7 +106,7 @@ static uint32_t start_poor(k42_pass *passes) {
         if (status != K42_MEMORY)
             return K42_DONE;
         for (int i = 0; i < PASSES; i++)
-            if (k42_enter(&passes[i]) != K42_EMPTY)
+            if (memcmp(&passes[i], &none, sizeof none) != 0 || k42_enter(&passes[i]) != K42_EMPTY)
                 return K42_FULL;
     }
     return status;

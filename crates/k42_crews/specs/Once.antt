@@ -27,3 +27,9 @@ pub record HasCalledOnce {P O R : Type 0} (object : ℕ) (op : O) (reply : R) (o
         generation = Some generation;
       }
   pub graces : new.graces ≡ old.graces
+
+-- It has made the call of a question, and this is what the reply tells.
+pub record HasAskedOnce {P O R T : Type 0} (object : ℕ) (op : O) (tells : R → T) (told : T) (old new : PassView P O R) : Type 0 where
+  pub reply : R
+  pub called : HasCalledOnce object op reply old new
+  pub tells_it : told ≡ tells reply

@@ -7,6 +7,6 @@ mod sections;
 mod threads;
 
 pub use crews::{are_all, close, end, last, start};
-pub use once::{call_once, swap_once};
+pub use once::{ask_once, call_once, swap_once};
 pub use sections::section;
 pub use threads::{Work, work_all};

@@ -2,7 +2,7 @@
 use Rattle.std.proofs.Common.{◌≡◌, Bool, ℕ, ◌<◌, ◌≤◌, true, false, List, [], ◌∷◌, ◌++◌, None, length, refl, sym, ap, ◌∙◌, subst}
 use Rattle.std.specs.Prelude.{Result, Ok, Err, IfOk, OnErr, OnOk, is_some}
 use Rattle.atomic_table.specs.Seated.{TableId}
-use Rattle.k42_kinds.specs.LayoutLaws.{Agree}
+use Rattle.k42_kinds.specs.LayoutLaws.{Agree, StepsRow}
 use Rattle.k42_kinds.specs.declared.entry.Reach.TheVariants.{One}
 use Rattle.k42_shapes.specs.Shapes.{cells_of}
 use Rattle.k42_limits.specs.declared.TheConstants.{PASS_ENTRIES}
@@ -12,7 +12,7 @@ use Rattle.turn_core.specs.Stamps.{last_stamp}
 use Rattle.k42_stamp.specs.Laws.{AreLaws}
 use Rattle.k42_stamp.specs.Layouts.{Layouts, shape_of}
 use Rattle.k42_joined.specs.Numbers.{cell_of}
-use Rattle.k42_board.specs.Calling.{HasCalledAt, HasLeftCell, HasStepped, MayCallAt, MayCallWith, called_by, lifted_by, stepped_cell}
+use Rattle.k42_board.specs.Calling.{HasCalledAt, HasLeftCell, HasStepped, MayCallAt, MayCallWith, called_by, due_in, lifted_by, stepped_cell}
 use Rattle.k42_board.specs.Cells.{cells_noted}
 use Rattle.k42_board.specs.Drawing.{IsDrawer, MayDrawCall}
 use Rattle.k42_board.specs.Log.{ComesTo, put_at, logs, step_at, took, with_log}
@@ -30,10 +30,12 @@ use Rattle.k42_mediator.proofs.GivenBack.{cell_in, given_one, holds_last}
 use Rattle.k42_mediator.proofs.Logs.{comes_by}
 use Rattle.k42_mediator.proofs.Remaining.{none_remains}
 use Rattle.k42_runtime.specs.Reaching.{HasTakenNext}
+use Rattle.k42_runtime.specs.Replies.{CanReply}
 use Rattle.k42_runtime.specs.Serving.{object_inside, row_inside, HasCells, IsCallAt, IsSameSeat, IsServedBy}
 use Rattle.k42_runtime.specs.Stepping.{HasSteppedCells}
 use Rattle.k42_runtime.specs.declared.calls.CallStep.TheVariants as calls
 use Rattle.k42_runtime.proofs.CallMade.{has_alone, has_made, may_draw, may_give_drawn, may_give_taken, may_step, told_alone}
+use Rattle.k42_runtime.proofs.CallReplied.{replied_at_one}
 use Rattle.k42_runtime.proofs.CallServed.{served_by}
 use Rattle.k42_runtime.proofs.CallTaken.{has_taken_next, taken_alone}
 
@@ -178,6 +180,17 @@ module _ {S L P O R : Type 0} (F : Layouts S L P O R) (laws : AreLaws F) (declar
   -- the operation may be made at the cell
   pub may_call : (id : ℕ) → MayCallAt F declared layout p n op id v1
   may_call id content number rows = may_with content number rows id
+
+  -- what it was replied there is what the object can reply
+  pub can_reply :
+      (id : ℕ) (v2 : PassView P O R) (reply : R) (stamp : ℕ)
+      → ((procs : ℕ) (parts : List P) → 0 < procs → F.Whole layout procs parts → F.Serves layout ((F.ways_of layout).combine parts))
+      → ((procs proc : ℕ) (parts : List P) → proc < procs → F.Whole layout procs parts
+      → StepsRow (F.object_of layout) (F.ways_of layout) (F.Whole layout procs) parts op ((F.ways_of layout).reach procs op proc))
+      → HasCalledAt F declared layout p n op id reply stamp v1 v2 → CanReply F.object_of F.Serves layout op reply
+  can_reply id v2 reply stamp serves steps is =
+      replied_at_one F.object_of F.Serves layout (F.ways_of layout) (F.Whole layout) op call.takes reply serves steps
+      (due_in (F.ways_of layout) F.procs p is.content) (may_with is.content is.number is.rows id).reached is.stepped.replied
 
   module _ (id : ℕ) (v2 : PassView P O R) where
     -- the lock may be left afterwards

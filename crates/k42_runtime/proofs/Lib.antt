@@ -21,4 +21,5 @@ pub mod CallWaited
 pub mod MergedTotals
 pub mod SectionLists
 pub mod SectionLaws
+pub mod CallReplied
 pub mod CallAtCell

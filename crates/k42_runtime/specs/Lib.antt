@@ -1,6 +1,7 @@
 pub mod Plans
 pub mod Systems
 pub mod Calls
+pub mod Replies
 pub mod Stepping
 pub mod Reaching
 pub mod Serving

@@ -4,6 +4,7 @@ ghost use Rattle.k42_limits.specs.declared.TheConstants.{PASS_ENTRIES};
 ghost use Rattle.k42_board.specs.Seen.{IsPassOf};
 ghost use Rattle.k42_board.specs.Tabling.{MayLookUp};
 ghost use Rattle.k42_runtime.specs.Calls.{IsAsked, IsWorn, HasCalled, HasNotCalled, HoldsUp, is_last};
+ghost use Rattle.k42_runtime.specs.Replies.{CanBeReplied};
 ghost use Rattle.k42_runtime.specs.Serving.{IsSameSeat, HasTried, step_with};
 ghost use Rattle.k42_runtime.specs.Systems.{IsPassHere, IsAtWork};
 ghost use Rattle.k42_runtime.specs.declared.calls.Attempt.TheVariants as Attempt;
@@ -12,9 +13,9 @@ ghost use Rattle.k42_runtime.specs.declared.calls.CallStep.TheVariants as CallSt
 ghost use Rattle.k42_runtime.specs.declared.calls.NoCall.TheVariants as NoCall;
 ghost use Rattle.k42_runtime.specs.declared.calls.CallTry.TheVariants as CallTry;
 
+use crate::patience::{wait_for_cell, wait_for_swap};
 use crate::serving::{go_inside, serve};
 use crate::system::System;
-use crossbeam_utils::Backoff;
 use k42_clustered::Clustered;
 use k42_kinds::Layout;
 use k42_limits::PASS_ENTRIES;
@@ -93,20 +94,12 @@ impl<L: Layout> Model for Call<L> {
     ghost view = { λ c. record { object = c.object; op = c.op; ended = c.ended } };
 }
 
-/// How often a call pauses before it tries again a cell that it found held: the pauses double up to 64 spins, and stay
-/// there. Whoever tries a lock takes its cache line from the caller that has it; but a swap waits for the activity of
-/// whoever waits here, so that no wait is longer than the first. A call that a swap blocks is tried again sooner.
-const PAUSES: u32 = 9;
-
 /// Waits before a call is tried again.
-fn wait_a_while(backoff: &Backoff, cause: CallCause) {
-    if let CallCause::CellHeld { .. } = cause {
-        let pauses = Backoff::new();
-        for _ in 0..PAUSES {
-            pauses.spin();
-        }
+fn wait_a_while(waited: &mut u32, cause: CallCause) {
+    match cause {
+        CallCause::CellHeld { .. } => wait_for_cell(waited),
+        CallCause::Blocked | CallCause::Elsewhere { .. } => wait_for_swap(waited),
     }
-    backoff.snooze();
 }
 
 /// One try of a call.
@@ -127,6 +120,7 @@ fn try_once<L: Layout>(
     requires few { length pass.old.view.taker.mine < PASS_ENTRIES }
     ensures same { IsSameSeat pass.old pass.new }
     ensures tried { HasTried (step_with result reply.new) object op.now pass.old.view pass.new.view }
+    ensures can { result ≡ CallTry.Ended → CanBeReplied L.object L.serves sys.now.layouts object op.now reply.new }
 {
     let Ok(()) = pass.reserve_entry() else {
         return CallTry::Memory;
@@ -177,6 +171,8 @@ impl<L: Clustered> Call<L> {
         ensures works { IsAtWork pass.new.view }
         ensures same { self.new ≡ record self.old { ended = is_last result } }
         ensures ended { (reply : L.Reply) → result ≡ CallStep.Ended reply → HasCalled self.old.object self.old.op reply pass.old.view pass.new.view }
+        ensures can { (reply : L.Reply) → result ≡ CallStep.Ended reply
+            → CanBeReplied L.object L.serves system.now.plan.objects self.old.object self.old.op reply }
         ensures again { (cause : CallCause) → result ≡ CallStep.Again cause → HasNotCalled pass.old.view pass.new.view }
         ensures found { (cause : CallCause) → result ≡ CallStep.Again cause
             → HoldsUp cause self.old.object pass.old.view pass.new.view }
@@ -214,6 +210,7 @@ impl<L: Clustered> System<L> {
         ensures seat { IsSameSeat pass.old pass.new }
         ensures works { IsAtWork pass.new.view }
         ensures ended { result ≡ CallTry.Ended → HasCalled object op.now reply.new pass.old.view pass.new.view }
+        ensures can { result ≡ CallTry.Ended → CanBeReplied L.object L.serves self.now.plan.objects object op.now reply.new }
         ensures again { (cause : CallCause) → result ≡ CallTry.Again cause → HasNotCalled pass.old.view pass.new.view }
         ensures found { (cause : CallCause) → result ≡ CallTry.Again cause → HoldsUp cause object pass.old.view pass.new.view }
         ensures memory { result ≡ CallTry.Memory → HasNotCalled pass.old.view pass.new.view }
@@ -242,6 +239,7 @@ impl<L: Clustered> System<L> {
         ensures seat { IsSameSeat pass.old pass.new }
         ensures works { IsAtWork pass.new.view }
         ensures ended { result ≡ Attempt.Ended → HasCalled object op.now reply.new pass.old.view pass.new.view }
+        ensures can { result ≡ Attempt.Ended → CanBeReplied L.object L.serves self.now.plan.objects object op.now reply.new }
         ensures again { result ≡ Attempt.Again → HasNotCalled pass.old.view pass.new.view }
         ensures found { result ≡ Attempt.Again → (cause : CallCause) × HoldsUp cause object pass.old.view pass.new.view }
         ensures memory { result ≡ Attempt.Memory → HasNotCalled pass.old.view pass.new.view }
@@ -274,18 +272,19 @@ impl<L: Clustered> System<L> {
         ensures seat { IsSameSeat pass.old pass.new }
         ensures works { IsAtWork pass.new.view }
         ensures called { IfOk result (λ reply. HasCalled object op reply pass.old.view pass.new.view) }
+        ensures can { IfOk result (λ reply. CanBeReplied L.object L.serves self.now.plan.objects object op reply) }
         ensures memory { result ≡ Err NoCall.Memory → HasNotCalled pass.old.view pass.new.view }
         ensures worn { (result ≡ Err NoCall.Worn) ↔ IsWorn pass.old.view }
         ensures kept { result ≡ Err NoCall.Worn → pass.new ≡ pass.old }
     {
         let mut reply = L::blank_reply();
-        let backoff = Backoff::new();
+        let mut waited = 0u32;
         for _ in rt.forever() {
             match self.try_call(alloc, pass, object, &op, &mut reply) {
                 CallTry::Ended => return Ok(reply),
                 CallTry::Memory => return Err(NoCall::Memory),
                 CallTry::Worn => return Err(NoCall::Worn),
-                CallTry::Again(cause) => wait_a_while(&backoff, cause),
+                CallTry::Again(cause) => wait_a_while(&mut waited, cause),
             }
         }
         unreachable!()

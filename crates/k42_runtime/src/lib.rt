@@ -2,11 +2,13 @@
 //! closed into one legal history.
 #![tactic(auto)]
 
+mod asking;
 mod calls;
 mod cells;
 mod closing;
 mod history;
 mod laws;
+mod patience;
 mod phases;
 mod plan;
 mod section_laws;
@@ -17,6 +19,7 @@ mod swaps;
 mod system;
 mod waiting;
 
+pub use asking::Question;
 pub use calls::{Attempt, Call, CallCause, CallStep, NoCall};
 pub use history::{History, Unclosed};
 pub use k42_clustered::Clustered;

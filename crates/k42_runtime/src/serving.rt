@@ -12,6 +12,8 @@ ghost use Rattle.k42_rule.specs.Settled.{IsSettled};
 ghost use Rattle.k42_runtime.specs.Reaching.{MayGiveBack};
 ghost use Rattle.k42_runtime.specs.Serving.{object_inside, row_inside, IsServing, GoesBy, IsSameSeat, Makes, GoesIn, GoesOut, IsCallAt, HasCells, IsServedBy, step_with};
 ghost use Rattle.k42_runtime.specs.Calls.{IsAsked};
+ghost use Rattle.k42_runtime.specs.Replies.{CanReply, CanBeReplied};
+ghost use Rattle.k42_runtime.specs.declared.calls.CallTry.TheVariants as CallTry;
 
 use crate::calls::{CallCause, CallTry};
 use crate::cells::{give_back, take_row};
@@ -108,6 +110,7 @@ fn serve_one<L: Layout>(
     requires few { length pass.old.view.taker.mine < PASS_ENTRIES }
     ensures same { IsSameSeat pass.old pass.new }
     ensures served { IsServedBy (step_with result reply.new) op.now pass.old.view pass.new.view }
+    ensures can { result ≡ CallTry.Ended → CanReply L.object L.serves layout.now op.now reply.new }
 {
     layouts_are_lawful(sys);
     let _procs = sys.procs();
@@ -143,6 +146,7 @@ fn make_all<L: Layout>(
     ensures numbers { numbers_of cells.new.items ≡ numbers_of cells.old.items }
     ensures may { MayGiveBack (layouts_in L.Layout sys.now) sys.now.layouts pass.new.seat pass.new.view cells.new.items }
     ensures makes { Makes (step_with result reply.new) (numbers_of cells.old.items) op.now pass.old.view pass.new.view }
+    ensures can { result ≡ CallTry.Ended → CanReply L.object L.serves layout.now op.now reply.new }
 {
     layouts_are_lawful(sys);
     let procs = sys.procs();
@@ -172,6 +176,7 @@ fn serve_all<L: Layout>(
     requires few { length pass.old.view.taker.mine < PASS_ENTRIES }
     ensures same { IsSameSeat pass.old pass.new }
     ensures served { IsServedBy (step_with result reply.new) op.now pass.old.view pass.new.view }
+    ensures can { result ≡ CallTry.Ended → CanReply L.object L.serves layout.now op.now reply.new }
 {
     let inside = pass.inside();
     let Ok(mut cells) = Vec::with_capacity(alloc, sys.procs() as usize) else {
@@ -208,6 +213,7 @@ pub(crate) fn serve<L: Layout>(
     requires few { length pass.old.view.taker.mine < PASS_ENTRIES }
     ensures same { IsSameSeat pass.old pass.new }
     ensures served { IsServedBy (step_with result reply.new) op.now pass.old.view pass.new.view }
+    ensures can { result ≡ CallTry.Ended → CanBeReplied L.object L.serves sys.now.layouts (object_inside pass.old.view) op.now reply.new }
 {
     let inside = pass.inside();
     let procs = sys.procs();

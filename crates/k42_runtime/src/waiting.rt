@@ -8,9 +8,9 @@ ghost use Rattle.k42_board.specs.Stepping.{layouts_in};
 ghost use Rattle.k42_runtime.specs.Systems.{IsPassHere, IsAtRest, MayLead};
 ghost use Rattle.k42_kinds.specs.declared.entry.To.TheVariants as To;
 
+use crate::patience::wait_for_swap;
 use crate::swaps::{NoSwap, Step, Swap, Swapped};
 use crate::system::System;
-use crossbeam_utils::Backoff;
 use k42_clustered::Clustered;
 use k42_kinds::To;
 use k42_quiesce::{collect, grace, hand_over, reclaim};
@@ -32,10 +32,10 @@ fn carry_out<L: Clustered, R: Wait>(
     requires leads { MayLead L.leads system.now.plan.objects swap.old.object swap.old.to }
     ensures { HasEnded system.now swap.old.object swap.old.to result pass.old pass.new }
 {
-    let backoff = Backoff::new();
+    let mut waited = 0u32;
     for _ in rt.forever() {
         match swap.step(alloc, system, pass) {
-            Step::Again(_) => backoff.snooze(),
+            Step::Again(_) => wait_for_swap(&mut waited),
             Step::Ended(end) => return Ok(end),
             Step::Memory => return Err(NoSwap::Memory),
             Step::Worn => return Err(NoSwap::Worn),

@@ -6,7 +6,8 @@ ghost use Rattle.co_limiter.specs.GivenIn.{given_at, given_in, mortal_bucket};
 
 mod crew;
 
-use crate::ends::{begin, end};
+use crate::ends::{ask, begin, end};
+use crate::questions::Take;
 use crate::turns::Turns;
 use co_limiter::{Bucket, BucketOp, BucketReply, Level, histories_are_limited};
 use crew::work_all;
@@ -68,7 +69,8 @@ fn granted<L: Clustered<State = MortalState<Level>, Op = BucketOp, Reply = Bucke
     Ok(Some((all_tokens(&entries), entries.len())))
 }
 
-/// The same of a bucket of which three threads take tokens, while a fourth has it kept in one way after another.
+/// The same of a bucket of which three threads take tokens, while a fourth has it kept in one way after another. In the end it
+/// refuses another token.
 pub(crate) fn run_bucket<R: Threads + Wait + Sync>(
     rt: &R,
     alloc: Global,
@@ -91,5 +93,15 @@ pub(crate) fn run_bucket<R: Threads + Wait + Sync>(
         return Ok(None);
     };
     work_all(rt, alloc, &system, turns, passes.as_mut_slice())?;
+    let Some(Some(false)) = ask(
+        rt,
+        alloc,
+        &system,
+        passes.as_mut_slice(),
+        &Take { amount: 1 },
+    )?
+    else {
+        return Ok(None);
+    };
     granted(alloc, system, passes, bucket, layout)
 }

@@ -4,13 +4,14 @@ ghost use Rattle.std.specs.Prelude.{◌<◌, ◌≤◌};
 mod crew;
 
 use crate::ends::{ask, begin, end};
+use crate::questions::Value;
 use crate::turns::Turns;
 use co_counter::SpreadCounter;
 use co_groups::AnyGroups;
 use crew::work_all;
 use k42_choice::Mortal;
 use k42_copies::Spaced;
-use k42_kinds::{Op, Reply};
+use k42_kinds::Op;
 use k42_memory::Memory;
 use std::alloc::Global;
 use std::sync::Wait;
@@ -37,12 +38,12 @@ pub(crate) fn run_counter<R: Threads + Wait + Sync>(
         return Ok(None);
     };
     work_all(rt, alloc, &system, turns, passes.as_mut_slice())?;
-    let reply = ask(rt, alloc, &system, passes.as_mut_slice(), Op::Get)?;
+    let told = ask(rt, alloc, &system, passes.as_mut_slice(), &Value)?;
     let Some(entries) = end(alloc, system, passes)? else {
         return Ok(None);
     };
-    match reply {
-        Some(Reply::Number(value)) => Ok(Some((value, entries.len()))),
+    match told {
+        Some(Some(value)) => Ok(Some((value, entries.len()))),
         _ => Ok(None),
     }
 }

@@ -6,10 +6,10 @@ ghost use Rattle.k42_kinds.specs.Legal.{IsLegalHistoryOf};
 
 use crate::turns::OBJECT;
 use k42_clustered::Clustered;
-use k42_crews::{call_once, close, start};
+use k42_crews::{ask_once, close, start};
 use k42_kinds::Entry;
 use k42_memory::Memory;
-use k42_runtime::{Keep, Pass, Plan, System};
+use k42_runtime::{Keep, Pass, Plan, Question, System};
 use std::alloc::Global;
 use std::sync::Wait;
 
@@ -33,14 +33,14 @@ pub(crate) fn begin<L: Clustered>(
     Ok(Some((system, passes)))
 }
 
-/// What the first pass is replied.
-pub(crate) fn ask<L: Clustered, R: Wait>(
+/// What the first pass is told.
+pub(crate) fn ask<L: Clustered, A: Question<L>, R: Wait>(
     rt: &R,
     alloc: Global,
     system: &System<L>,
     passes: &mut [Pass<L>],
-    op: L::Op,
-) -> Result<Option<L::Reply>, Memory>
+    question: &A,
+) -> Result<Option<A::Told>, Memory>
     requires { AreFree system.now passes.old }
     ensures free { AreFree system.now passes.new }
     ensures callers { callers_of passes.new ≡ callers_of passes.old }
@@ -48,7 +48,7 @@ pub(crate) fn ask<L: Clustered, R: Wait>(
     let Some((pass, _others)) = passes.split_first_mut() else {
         return Ok(None);
     };
-    call_once(rt, alloc, system, pass, OBJECT, op).map_err(|_| Memory)
+    ask_once(rt, alloc, system, pass, OBJECT, question).map_err(|_| Memory)
 }
 
 /// The history that the passes leave. There is none where they are not all there.

@@ -6,6 +6,7 @@ mod bucket;
 mod counter;
 mod ends;
 mod kept;
+mod questions;
 mod turns;
 
 use crate::bucket::run_bucket;

@@ -16,6 +16,7 @@ use Rattle.k42_board.specs.Plan.{layouts_on}
 use Rattle.k42_shapes.specs.Shapes.{cells_of, shape_at}
 use Rattle.k42_runtime.specs.Reaching.{MayGiveBack}
 use Rattle.k42_runtime.specs.Stepping.{AreRow, MayStepRow, HasSteppedCells}
+use Rattle.k42_runtime.proofs.CallReplied.{replied_at_all}
 use Rattle.k42_runtime.proofs.CallMade.{may_step, may_draw, numbers_stepped, long_stepped, may_give_taken, may_give_drawn, has_made}
 use Rattle.k42_runtime.proofs.serving.make_all.Goals as goal
 
@@ -118,3 +119,19 @@ returns-clause-makes g c =
     ∙ ap (λ (xs : List (Content _ _ _)). took steps.Draw (lock_word (first_cell (numbers_of xs))) 0 (drawn_at xs (entry_call v (numbers_of xs) (Call op) (Replied reply)) v)) back in
     has_made F laws declared agrees v layout All op items has few reply new made (lock_word (first_cell (numbers_of new))) view
     (later_stamp v (numbers_of new) c.draw_call.result (c.draw_call.ensures.stamp ∙ ap (λ (xs : List (Content _ _ _)). stamp_next v (numbers_of xs)) back) c.draw_call.ensures.later) knows
+
+pub returns-clause-can : goal.returns-clause-can
+returns-clause-can g c =
+    let procs : ℕ = c.args.sys.now.procs in let F = layouts_on g.L.Kind.object g.L.Layout.shapes g.L.Layout.tag_of g.L.Layout.ways g.L.Layout.whole g.L.Layout.serves g.L.Layout.admitted g.L.Layout.act_of procs c.args.sys.now.callers in
+    let met = g.met.L.Layout g.world.𝓛 g.world.𝓜 g.world.𝓡 ((λ s x. x), (λ x. x), (λ x. x), λ x. x) in
+    let layout = c.args.layout.now in let op = c.args.op.now in let items = c.args.cells.now.items in
+    let is = c.procs-procs.ensures.is in let few : procs ≤ 8 = subst (λ k. k ≤ 8) is c.procs-procs.ensures.few in
+    let call = c.requires.has.call in let many = cells_of (shape_at (g.L.Layout.shapes layout) (g.L.Layout.tag_of layout)) procs in
+    let may = (may_step F c.layouts_are_lawful.ensures c.args.sys.now.layouts met.agrees c.args.pass.now.view layout All op items c.requires.has few).1 in
+    let row = parts_from (F.ways_of layout) procs 0 (take many items) in
+    let replied : c.in-Ok.replied ≡ (F.ways_of layout).row_reply row op =
+    subst (λ (z : ℕ × List (Content _ _ _)). c.in-Ok.replied ≡ (F.ways_of layout).row_reply (parts_from (F.ways_of layout) z.0 0 (take (cells_of (shape_at (g.L.Layout.shapes layout) (g.L.Layout.tag_of layout)) z.0) z.1)) op)
+    (λ j. (is j, c.as_mut_slice.ensures.value j)) c.in-Ok.ensures.replied in
+    λ ended. replied_at_all F.object_of F.Serves layout (F.ways_of layout) (F.Whole layout) op call.takes c.in-Ok.replied
+    (λ many parts some whole. (met.stands layout many parts call.known some whole).served) procs row may.some may.whole
+    (met.steps_all layout procs row op call.known may.some call.takes may.whole) replied

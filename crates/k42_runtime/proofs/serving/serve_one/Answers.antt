@@ -3,7 +3,7 @@ use Rattle.turn_core.specs.Names.{names}
 use Rattle.k42_mediator.proofs.SamePass.{draws_between, same_twice}
 use Rattle.k42_board.specs.Plan.{layouts_on}
 use Rattle.k42_runtime.specs.Serving.{object_inside, row_inside}
-use Rattle.k42_runtime.proofs.CallAtCell.{may_call, left_home, called_served, left_served, seat_drawn, seat_left, still_ours}
+use Rattle.k42_runtime.proofs.CallAtCell.{can_reply, may_call, left_home, called_served, left_served, seat_drawn, seat_left, still_ours}
 use Rattle.k42_runtime.proofs.CallMade.{served_inside}
 use Rattle.k42_runtime.proofs.CallTaken.{cell_small, was_refused, refused_alone}
 use Rattle.k42_runtime.proofs.serving.serve_one.Goals as goal
@@ -84,3 +84,14 @@ returns-in-Err-clause-served g c =
     left_served F c.layouts_are_lawful.ensures c.args.sys.now.layouts (g.met.L.Layout g.world.𝓛 g.world.𝓜 g.world.𝓡 ((λ s x. x), (λ x. x), (λ x. x), λ x. x)).agrees c.args.layout.now c.args.place c.args.number c.lock-found.result c.args.op.now c.args.pass.now.view c.lock-found.new.pass.view
     few c.requires.number c.requires.call c.requires.held c.lock-found.ensures.takes.finds.unnoted c.requires.few c.if-found-ne0.false c.lock-found.ensures.takes.knows c.lock-found.new.pass.seat
     c.call_one-called.new.pass.view c.requires.settled.back c.requires.settled.told c.unlock.new.pass.view (c.unlock.ensures 0).takes.knows c.in-Err.ensures.memory
+
+pub returns-in-Ok-clause-can : goal.returns-in-Ok-clause-can
+returns-in-Ok-clause-can g c =
+    let F = layouts_on g.L.Kind.object g.L.Layout.shapes g.L.Layout.tag_of g.L.Layout.ways g.L.Layout.whole g.L.Layout.serves g.L.Layout.admitted g.L.Layout.act_of c.args.sys.now.procs c.args.sys.now.callers in
+    let few : F.procs ≤ 8 = subst (λ k. k ≤ 8) c.procs-procs.ensures.is c.procs-procs.ensures.few in
+    let laws = g.met.L.Layout g.world.𝓛 g.world.𝓜 g.world.𝓡 ((λ s x. x), (λ x. x), (λ x. x), λ x. x) in
+    λ ended. can_reply F c.layouts_are_lawful.ensures c.args.sys.now.layouts laws.agrees c.args.layout.now c.args.place c.args.number c.lock-found.result c.args.op.now c.args.pass.now.view c.lock-found.new.pass.view
+    few c.requires.number c.requires.call c.requires.held c.lock-found.ensures.takes.finds.unnoted c.requires.few c.if-found-ne0.false c.lock-found.ensures.takes.knows c.lock-found.new.pass.seat
+    c.call_one-called.new.pass.view c.call_one-called.new.reply c.in-Ok.field-0
+    (λ procs parts some whole. (laws.stands c.args.layout.now procs parts c.requires.call.known some whole).served)
+    (λ procs proc parts there whole. laws.steps c.args.layout.now procs proc parts c.args.op.now c.requires.call.known there c.requires.call.takes whole) c.in-Ok.ensures.called
