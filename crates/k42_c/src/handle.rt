@@ -50,14 +50,6 @@ impl Inner {
         }
     }
 
-    /// One that means nothing, with the pointer that this one has.
-    #[inline(always)]
-    pub(crate) fn outworn(&self, alloc: Global) -> Inner
-        ensures { result.full ≡ 0 }
-    {
-        Inner::empty(self.at, alloc)
-    }
-
     /// One that means nothing, from a pointer of the caller's.
     pub(crate) fn empty(at: *mut u8, alloc: Global) -> Inner
         ensures { result.full ≡ 0 }

@@ -10,21 +10,7 @@ use crate::seat::Seat;
 use std::alloc::Global;
 use std::mem::replace;
 
-/// A handle that is empty.
-#[inline(always)]
-fn hollow(none: *mut u8, inner: Inner) -> K42Pass
-    requires { inner.full ≡ 0 }
-    ensures { seat_of result ≡ seats.Gone }
-{
-    K42Pass {
-        full: 0,
-        none,
-        inner,
-    }
-}
-
-/// Takes the seat out, and leaves the handle empty. Its pointer stays where it is and means nothing: who puts a seat in again
-/// writes it anew.
+/// Takes the seat out, and leaves the handle empty.
 #[inline(always)]
 pub(crate) fn take(alloc: Global, handle: &mut K42Pass) -> Option<Box<Seat, Global>>
     ensures taken { MatchOption result (seat_of handle.old ≡ seats.Gone) (λ held. held.value ≡ seat_of handle.old) }
@@ -33,8 +19,13 @@ pub(crate) fn take(alloc: Global, handle: &mut K42Pass) -> Option<Box<Seat, Glob
     if handle.full != 1 {
         return None;
     }
-    let outworn = hollow(handle.none, handle.inner.outworn(alloc));
-    let K42Pass { inner, .. } = replace(handle, outworn);
+    let none = handle.none;
+    let empty = K42Pass {
+        full: 0,
+        none,
+        inner: Inner::empty(none, alloc),
+    };
+    let K42Pass { inner, .. } = replace(handle, empty);
     Some(inner.into_parts().into_box())
 }
 
@@ -56,25 +47,13 @@ pub(crate) fn put(handle: &mut K42Pass, seat: Box<Seat, Global>)
     );
 }
 
-/// Sets all of an empty handle to 0 again, as C has set it.
-pub(crate) fn wipe(alloc: Global, handle: &mut K42Pass)
-    requires { seat_of handle.old ≡ seats.Gone }
-    ensures { seat_of handle.new ≡ seats.Gone }
-{
-    let none = handle.none;
-    let _old = replace(handle, hollow(none, Inner::empty(none, alloc)));
-}
-
-/// Puts the seat into a handle that is empty, unless it is gone.
-pub(crate) fn settle(alloc: Global, handle: &mut K42Pass, seat: Box<Seat, Global>)
+/// The same, unless it is gone.
+pub(crate) fn settle(handle: &mut K42Pass, seat: Box<Seat, Global>)
     requires { seat_of handle.old ≡ seats.Gone }
     ensures { seat_of handle.new ≡ seat.value }
 {
     match seat.as_ref() {
-        Seat::Gone => {
-            drop(seat);
-            wipe(alloc, handle);
-        }
+        Seat::Gone => drop(seat),
         _ => put(handle, seat),
     }
 }

@@ -9,7 +9,7 @@ ghost use Rattle.k42_c.specs.declared.refusal.Refusal.TheVariants as refusals;
 
 use crate::coding::{keep_named, kind_named, layout_named};
 use crate::held::K42Pass;
-use crate::holding::{put, take, wipe};
+use crate::holding::{put, take};
 use crate::home::Home;
 use crate::plain::K42Object;
 use crate::refusal::Refusal;
@@ -140,7 +140,6 @@ fn clear(alloc: Global, handles: &mut [K42Pass])
         return;
     };
     drop(take(alloc, handle));
-    wipe(alloc, handle);
     clear(alloc, others);
 }
 

@@ -78,7 +78,7 @@ pub extern "C" fn k42_close(alloc: Global, pass: &mut K42Pass, missing: &mut u32
         return EMPTY;
     };
     let told = close(alloc, &mut held);
-    settle(alloc, pass, held);
+    settle(pass, held);
     match told {
         Ok(given) => {
             *missing = match given {
@@ -100,7 +100,7 @@ pub extern "C" fn k42_drop(alloc: Global, pass: &mut K42Pass) -> u32
         return EMPTY;
     };
     let told = give_up(&mut held);
-    settle(alloc, pass, held);
+    settle(pass, held);
     done_code(told)
 }
 

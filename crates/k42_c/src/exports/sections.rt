@@ -19,7 +19,7 @@ pub extern "C" fn k42_section(alloc: Global, pass: &mut K42Pass, missing: &mut u
         return EMPTY;
     };
     let told = give_section(alloc, &mut held);
-    settle(alloc, pass, held);
+    settle(pass, held);
     match told {
         Ok(parked) => {
             match parked {
@@ -42,7 +42,7 @@ pub extern "C" fn k42_resume(alloc: Global, pass: &mut K42Pass) -> u32
         return EMPTY;
     };
     let told = resume(alloc, &mut held);
-    settle(alloc, pass, held);
+    settle(pass, held);
     match told {
         Ok(resumed) => resumed_code(resumed),
         Err(why) => refusal_code(why),
