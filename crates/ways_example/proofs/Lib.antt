@@ -1,1 +1,2 @@
 pub mod GivenTokens
+pub mod QuestionExamples
