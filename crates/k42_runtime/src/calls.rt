@@ -94,7 +94,8 @@ impl<L: Layout> Model for Call<L> {
     ghost view = { λ c. record { object = c.object; op = c.op; ended = c.ended } };
 }
 
-/// Waits before a call is tried again.
+/// Waits before a call is tried again. It stays out of the way of a call that nothing holds up.
+#[inline(never)]
 fn wait_a_while(waited: &mut u32, cause: CallCause) {
     match cause {
         CallCause::CellHeld { .. } => wait_for_cell(waited),
