@@ -1,5 +1,5 @@
 -- What is legal of the objects of the plan's layouts is legal of those of their kinds.
-use Rattle.std.proofs.Common.{◌≡◌, ℕ, List, Some, true, ◌∙◌, ap}
+use Rattle.std.proofs.Common.{◌≡◌, ℕ, List, Some, ◌∙◌, ap}
 use Rattle.std.specs.List.{slice_get}
 use Rattle.std.specs.Option.{option_map}
 use Rattle.std.proofs.lemmas.Option.{slice_get-map}

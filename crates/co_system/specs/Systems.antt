@@ -2,12 +2,10 @@
 use Rattle.std.specs.Prelude.{ℕ, Bool, List, length, map, nat_le, Option}
 use Rattle.k42_runtime.specs.declared.plan.PlanFault.{PlanFault}
 use Rattle.k42_shapes.specs.declared.shape.Shape.{Shape}
-use Rattle.k42_shapes.specs.Shapes.{cells_of, is_dead_tag, shape_at, shared_and_spread}
+use Rattle.k42_shapes.specs.Shapes.{is_dead_tag, shared_and_spread}
 use Rattle.k42_kinds.specs.OneThread.{OneThread}
 use Rattle.k42_kinds.specs.Operations.{layout_number}
-use Rattle.k42_kinds.specs.Rows.{Ways}
 use Rattle.k42_kinds.specs.Watched.{seen_asking, watched_object}
-use Rattle.k42_kinds.specs.declared.entry.Act.{Act}
 use Rattle.k42_kinds.specs.declared.entry.Entry.{Entry}
 use Rattle.k42_kinds.specs.declared.entry.To.{To}
 use Rattle.k42_kinds.specs.declared.operation.KindName.{KindName}

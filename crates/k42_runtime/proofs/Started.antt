@@ -1,5 +1,5 @@
 -- A plan is what a table asks of a start, and its passes are the first of the system.
-use Rattle.std.proofs.Common.{◌≡◌, ◌<◌, Bool, true, List, [], length, slice_index, refl, ap, ◌∙◌}
+use Rattle.std.proofs.Common.{◌≡◌, List, [], length, slice_index, refl, ap, ◌∙◌}
 use Rattle.std.proofs.lemmas.Bool.{ltb-true}
 use Rattle.k42_places.specs.Places.{EachPlace}
 use Rattle.phase_core.specs.Stages.{is_out}
@@ -10,7 +10,7 @@ use Rattle.k42_board.specs.declared.view.PassView.{PassView}
 use Rattle.k42_rule.specs.Opened.{IsOpened}
 use Rattle.k42_rule.specs.Tags.{HasTags, HaveTags}
 use Rattle.k42_runtime.specs.Plans.{PlanSeen, IsSoundPlan}
-use Rattle.k42_runtime.specs.Systems.{IsPlanned, IsFirst, HasStarted, is_live_by}
+use Rattle.k42_runtime.specs.Systems.{IsFirst, HasStarted, is_live_by}
 
 -- a type that has all layouts of each of its objects has them for these
 pub have_all : {S L P O R : Type 0} (words : LayoutWords S L P O R) → ((layout : L) → HasTags words.shapes words.has_tag layout)

@@ -1,5 +1,5 @@
 -- A swap that is stepped until it is over.
-use Rattle.std.proofs.Common.{◌≡◌, ⊎_elim, inl, inr, ◌↔◌, ℕ, ◌+◌, ◌≤◌, true, false, List, Result, Ok, Err, length, refl, sym, ap, ◌∙◌, subst, arith}
+use Rattle.std.proofs.Common.{◌≡◌, ⊎_elim, inl, inr, ◌↔◌, ℕ, ◌+◌, ◌≤◌, true, false, List, Result, Ok, Err, refl, sym, ap, ◌∙◌, subst, arith}
 use Rattle.k42_board.proofs.Gained.{follows_on, follows_same}
 use Rattle.k42_board.specs.Seen.{PassSeen}
 use Rattle.k42_board.specs.declared.view.PassView.{PassView}

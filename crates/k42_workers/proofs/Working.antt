@@ -1,6 +1,6 @@
 -- A worker's items, one after the other.
 use Rattle.std.proofs.Common.{◌≡◌, ◌≢◌, ℕ, zero, suc, ◌+◌, ◌<◌, ◌≤◌, ◌⊎◌, inl, inr, Bool, true, false, List, [], ◌∷◌, ◌++◌, length, get_or, map, drop, refl, sym, ap, ◌∙◌, subst, arith}
-use Rattle.std.specs.Prelude.{All, Option, Some, None, slice_get}
+use Rattle.std.specs.Prelude.{Option, Some, None, slice_get}
 use Rattle.std.proofs.lemmas.List.{append-nil, append_assoc, map-append, length_push}
 use Rattle.std.proofs.lemmas.List.Elements.{All-push, All-nil}
 use Rattle.std.proofs.lemmas.Option.{same_Some, none-some, slice_get_within}
@@ -22,7 +22,7 @@ use Rattle.record_text.specs.Spelling.{HasGeneration}
 use Rattle.record_text.specs.Told.{blocks_from, blocks_of, AreInStep}
 use Rattle.k42_workers.specs.Lines.{Standing, IsLatest, GoesOn, left_open, IsTimedCall, IsTimed, AnswersLine, Follows}
 use Rattle.k42_workers.specs.UnderWay.{IsUnderWay, block_at}
-use Rattle.k42_workers.specs.Workers.{IsMadeBy, StayInStep, HasDoneLines}
+use Rattle.k42_workers.specs.Workers.{IsMadeBy, HasDoneLines}
 
 -- the entry at a place after one more was put behind the others
 at_last_or_before : (entries : List (Entry Op Reply)) (entry : Entry Op Reply) (i : ℕ) (found : Entry Op Reply) → slice_get (entries ++ entry ∷ []) i ≡ Some found → (slice_get entries i ≡ Some found) ⊎ ((i ≡ length entries) × (found ≡ entry))

@@ -1,4 +1,4 @@
-use Rattle.std.proofs.Common.{Ok, Err, length, sym, ap, subst}
+use Rattle.std.proofs.Common.{Ok, Err, sym, ap, subst}
 use Rattle.k42_runtime.specs.Swaps.{IsAtStage, HasStepped, is_over}
 use Rattle.k42_runtime.proofs.SwapWaits.{not_stepped, stepped_again, ended_since}
 use Rattle.k42_runtime.proofs.waiting.carry_out.Goals as goal

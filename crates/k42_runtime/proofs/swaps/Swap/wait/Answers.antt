@@ -1,4 +1,4 @@
-use Rattle.std.proofs.Common.{◌≡◌, ℕ, ◌+◌, ◌≤◌, length, refl, sym, ap, ◌∙◌, subst, arith}
+use Rattle.std.proofs.Common.{◌≡◌, ◌+◌, ◌≤◌, refl, sym, ap, ◌∙◌, subst, arith}
 use Rattle.phase_core.specs.Stages.{is_out}
 use Rattle.turn_core.specs.Plain as turns
 use Rattle.k42_board.proofs.Gained.{extends_as, extends_on, extends_one}

@@ -4,7 +4,7 @@ use Rattle.k42_board.specs.Starting.{IsStart, IsStarted}
 use Rattle.k42_rule.specs.Opened.{IsOpened}
 use Rattle.k42_runtime.specs.Plans.{PlanSeen, IsSoundPlan}
 use Rattle.k42_runtime.specs.Systems.{is_live_by}
-use Rattle.k42_runtime.proofs.Started.{have_all, is_start, started}
+use Rattle.k42_runtime.proofs.Started.{is_start, started}
 use Rattle.k42_runtime.proofs.system.System.start.Goals as goal
 
 pub start-requires-clause-start : goal.start-requires-clause-start
