@@ -2,11 +2,11 @@
 use Rattle.std.proofs.Common.{◌≡◌, ℕ, refl, sym, subst}
 use Rattle.std.specs.Prelude.{Result, Err}
 use Rattle.k42_c.specs.Exports.{Tells}
-use Rattle.k42_c.specs.declared.coding.TheConstants.{EMPTY}
-use Rattle.k42_c.specs.declared.refusal.Refusal.{Refusal}
-use Rattle.k42_c.specs.declared.refusal.Refusal.TheVariants.{Empty}
-use Rattle.k42_c.specs.declared.seat.Seat.{Seat}
-use Rattle.k42_c.specs.declared.seat.Seat.TheVariants.{Gone}
+use Rattle.k42_handles.specs.declared.coding.TheConstants.{EMPTY}
+use Rattle.k42_handles.specs.declared.refusal.Refusal.{Refusal}
+use Rattle.k42_handles.specs.declared.refusal.Refusal.TheVariants.{Empty}
+use Rattle.k42_handles.specs.declared.seat.Seat.{Seat}
+use Rattle.k42_handles.specs.declared.seat.Seat.TheVariants.{Gone}
 
 -- what is so of a seat that is gone is so of this handle's
 pub kept_empty : {A : Type 0} (happened : Seat → Seat → Result A Refusal → Type 0) (old new : Seat) → old ≡ Gone → new ≡ Gone → happened Gone Gone (Err Empty)

@@ -1,11 +1,1 @@
-pub mod AsBox
-pub mod Cells
 pub mod EmptyHandles
-pub mod Gathered
-pub mod Given
-pub mod Missed
-pub mod ReadEntries
-pub mod Reclaimed
-pub mod Started
-pub mod Stepped
-pub mod Swapped

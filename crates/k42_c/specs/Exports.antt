@@ -2,23 +2,23 @@
 use Rattle.std.specs.Prelude.{◌≡◌, ℕ, Result, Ok, Err}
 use Rattle.k42_kinds.specs.declared.operation.Reply.{Reply}
 use Rattle.k42_kinds.specs.declared.operation.Reply.TheVariants.{Number, Text}
-use Rattle.k42_c.specs.Closing.{HasClosed}
-use Rattle.k42_c.specs.Codes.{freeing_code, given_code, parked_code, progress_code, reply_code, status_of}
-use Rattle.k42_c.specs.Parking.{HasGivenSection}
-use Rattle.k42_c.specs.Plain.{plain_progress, plain_text}
-use Rattle.k42_c.specs.Reclaiming.{HasReclaimed}
-use Rattle.k42_c.specs.declared.closing.Given.{Given}
-use Rattle.k42_c.specs.declared.closing.Given.TheVariants as givens
-use Rattle.k42_c.specs.declared.coding.TheConstants.{DONE}
-use Rattle.k42_c.specs.declared.parking.Parked.{Parked}
-use Rattle.k42_c.specs.declared.parking.Parked.TheVariants as parked
-use Rattle.k42_c.specs.declared.plain.K42Swapping.{K42Swapping}
-use Rattle.k42_c.specs.declared.plain.K42Text.{K42Text}
-use Rattle.k42_c.specs.declared.reclaiming.Freeing.{Freeing}
-use Rattle.k42_c.specs.declared.reclaiming.Freeing.TheVariants.{Freed}
-use Rattle.k42_c.specs.declared.refusal.Refusal.{Refusal}
-use Rattle.k42_c.specs.declared.seat.Seat.{Seat}
-use Rattle.k42_c.specs.declared.swapping.Progress.{Progress}
+use Rattle.k42_handles.specs.Closing.{HasClosed}
+use Rattle.k42_handles.specs.Codes.{freeing_code, given_code, parked_code, progress_code, reply_code, status_of}
+use Rattle.k42_handles.specs.Parking.{HasGivenSection}
+use Rattle.k42_handles.specs.Plain.{plain_progress, plain_text}
+use Rattle.k42_handles.specs.Reclaiming.{HasReclaimed}
+use Rattle.k42_handles.specs.declared.closing.Given.{Given}
+use Rattle.k42_handles.specs.declared.closing.Given.TheVariants as givens
+use Rattle.k42_handles.specs.declared.coding.TheConstants.{DONE}
+use Rattle.k42_handles.specs.declared.parking.Parked.{Parked}
+use Rattle.k42_handles.specs.declared.parking.Parked.TheVariants as parked
+use Rattle.k42_handles.specs.declared.plain.K42Swapping.{K42Swapping}
+use Rattle.k42_handles.specs.declared.plain.K42Text.{K42Text}
+use Rattle.k42_handles.specs.declared.reclaiming.Freeing.{Freeing}
+use Rattle.k42_handles.specs.declared.reclaiming.Freeing.TheVariants.{Freed}
+use Rattle.k42_handles.specs.declared.refusal.Refusal.{Refusal}
+use Rattle.k42_handles.specs.declared.seat.Seat.{Seat}
+use Rattle.k42_handles.specs.declared.swapping.Progress.{Progress}
 
 -- it was answered so, and C is told the status
 abbrev pub Tells : {A : Type 0} → (A → ℕ) → (Result A Refusal → Type 0) → ℕ → Type 0

@@ -1,8 +1,8 @@
 //! What C calls, as `k42.h` says. What is on the way of a call is inlined, since each export knows its operation.
-ghost use Rattle.k42_c.specs.Codes.{reply_code};
+ghost use Rattle.k42_handles.specs.Codes.{reply_code};
 ghost use Rattle.k42_c.specs.Exports.{Tells, TellsNumber};
-ghost use Rattle.k42_c.specs.Handles.{seat_of};
-ghost use Rattle.k42_c.specs.Seats.{HasAnswered};
+ghost use Rattle.k42_handles.specs.Handles.{seat_of};
+ghost use Rattle.k42_handles.specs.Seats.{HasAnswered};
 
 mod counters;
 mod directories;
@@ -11,12 +11,8 @@ mod passes;
 mod sections;
 mod swaps;
 
-use crate::coding::call_code;
-use crate::held::K42Pass;
-use crate::holding::{put, take};
-use crate::refusal::Refusal;
-use crate::steps::call;
 use co_system::{Op, Reply};
+use k42_handles::{K42Pass, Refusal, call, call_code, put, take};
 use std::alloc::Global;
 
 /// Tries the operation once, if there is one.

@@ -1,14 +1,14 @@
 //! Counters.
 ghost use Rattle.std.specs.Prelude.{Some};
-ghost use Rattle.k42_c.specs.Codes.{reply_code};
+ghost use Rattle.k42_handles.specs.Codes.{reply_code};
 ghost use Rattle.k42_c.specs.Exports.{Tells, TellsNumber};
-ghost use Rattle.k42_c.specs.Handles.{seat_of};
-ghost use Rattle.k42_c.specs.Seats.{HasAnswered};
+ghost use Rattle.k42_handles.specs.Handles.{seat_of};
+ghost use Rattle.k42_handles.specs.Seats.{HasAnswered};
 ghost use Rattle.k42_kinds.specs.declared.operation.Op.TheVariants as Op;
 
 use super::{number_of, status};
-use crate::held::K42Pass;
 use co_system::Op;
+use k42_handles::K42Pass;
 use std::alloc::Global;
 
 /// Adds to a counter.

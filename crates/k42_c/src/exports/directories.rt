@@ -1,16 +1,15 @@
 //! Directories.
 ghost use Rattle.std.specs.Prelude.{Some};
-ghost use Rattle.k42_c.specs.Codes.{reply_code};
+ghost use Rattle.k42_handles.specs.Codes.{reply_code};
 ghost use Rattle.k42_c.specs.Exports.{Tells, TellsNumber};
-ghost use Rattle.k42_c.specs.Handles.{seat_of};
-ghost use Rattle.k42_c.specs.Seats.{HasAnswered};
-ghost use Rattle.k42_c.specs.Spelling.{bind_spelled, find_spelled, unbind_spelled};
+ghost use Rattle.k42_handles.specs.Handles.{seat_of};
+ghost use Rattle.k42_handles.specs.Seats.{HasAnswered};
+ghost use Rattle.k42_handles.specs.Spelling.{bind_spelled, find_spelled, unbind_spelled};
 ghost use Rattle.k42_kinds.specs.declared.operation.Op.TheVariants as Op;
 
 use super::{number_of, status};
-use crate::held::K42Pass;
-use crate::spelling::{bind_spelled, find_spelled, unbind_spelled};
 use co_system::Op;
+use k42_handles::{K42Pass, bind_spelled, find_spelled, unbind_spelled};
 use std::alloc::Global;
 
 /// Binds a key to a number.

@@ -1,18 +1,15 @@
 //! Page caches.
 ghost use Rattle.std.specs.Prelude.{Some};
-ghost use Rattle.k42_c.specs.Codes.{reply_code};
+ghost use Rattle.k42_handles.specs.Codes.{reply_code};
 ghost use Rattle.k42_c.specs.Exports.{Tells, TellsNumber, TellsText};
-ghost use Rattle.k42_c.specs.Handles.{seat_of};
-ghost use Rattle.k42_c.specs.Seats.{HasAnswered};
-ghost use Rattle.k42_c.specs.Spelling.{read_spelled, write_spelled};
+ghost use Rattle.k42_handles.specs.Handles.{seat_of};
+ghost use Rattle.k42_handles.specs.Seats.{HasAnswered};
+ghost use Rattle.k42_handles.specs.Spelling.{read_spelled, write_spelled};
 ghost use Rattle.k42_kinds.specs.declared.operation.Op.TheVariants as Op;
 
 use super::{number_of, status, tried};
-use crate::coding::call_code;
-use crate::held::K42Pass;
-use crate::plain::{K42Text, plain_text};
-use crate::spelling::{read_spelled, write_spelled};
 use co_system::{Op, Reply};
+use k42_handles::{K42Pass, K42Text, call_code, plain_text, read_spelled, write_spelled};
 use std::alloc::Global;
 
 /// Writes a page.

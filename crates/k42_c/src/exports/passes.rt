@@ -1,21 +1,16 @@
 //! Systems, their passes, and what these leave.
 ghost use Rattle.std.specs.Prelude.{◌≡◌};
-ghost use Rattle.k42_c.specs.Closing.{HasDropped};
+ghost use Rattle.k42_handles.specs.Closing.{HasDropped};
 ghost use Rattle.k42_c.specs.Exports.{Tells, TellsCount, TellsGiven, done_code};
-ghost use Rattle.k42_c.specs.Handles.{seat_of};
-ghost use Rattle.k42_c.specs.Reading.{HasCounted, HasReadFrom};
-ghost use Rattle.k42_c.specs.Seats.{HasEntered, HasLeft};
-ghost use Rattle.k42_c.specs.Starting.{HasStarted};
+ghost use Rattle.k42_handles.specs.Handles.{seat_of};
+ghost use Rattle.k42_handles.specs.Reading.{HasCounted, HasReadFrom};
+ghost use Rattle.k42_handles.specs.Seats.{HasEntered, HasLeft};
+ghost use Rattle.k42_handles.specs.Starting.{HasStarted};
 
-use crate::closing::{Given, close, give_up};
-use crate::coding::{DONE, EMPTY, given_code, refusal_code};
-use crate::held::K42Pass;
-use crate::holding::{put, settle, take};
-use crate::plain::{K42Entry, K42Object};
-use crate::reading::{count, read};
-use crate::refusal::Refusal;
-use crate::starting::start;
-use crate::steps::{enter, leave};
+use k42_handles::{
+    DONE, EMPTY, Given, K42Entry, K42Object, K42Pass, Refusal, close, count, enter, give_up,
+    given_code, leave, put, read, refusal_code, settle, start, take,
+};
 use std::alloc::Global;
 
 /// The status of what has nothing more to tell.

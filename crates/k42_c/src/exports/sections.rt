@@ -1,13 +1,13 @@
 //! Sections of the history of a running system.
-ghost use Rattle.k42_c.specs.Codes.{resumed_code};
+ghost use Rattle.k42_handles.specs.Codes.{resumed_code};
 ghost use Rattle.k42_c.specs.Exports.{Tells, TellsParked};
-ghost use Rattle.k42_c.specs.Handles.{seat_of};
-ghost use Rattle.k42_c.specs.Parking.{HasResumed};
+ghost use Rattle.k42_handles.specs.Handles.{seat_of};
+ghost use Rattle.k42_handles.specs.Parking.{HasResumed};
 
-use crate::coding::{EMPTY, parked_code, refusal_code, resumed_code};
-use crate::held::K42Pass;
-use crate::holding::{settle, take};
-use crate::parking::{Parked, give_section, resume};
+use k42_handles::{
+    EMPTY, K42Pass, Parked, give_section, parked_code, refusal_code, resume, resumed_code, settle,
+    take,
+};
 use std::alloc::Global;
 
 /// Puts the pass to the others for a section, which the last leaves in its handle.

@@ -1,20 +1,17 @@
 //! Swaps and reclaims.
 ghost use Rattle.std.specs.Prelude.{◌≡◌, Some, IfSome};
-ghost use Rattle.k42_c.specs.Codes.{to_named};
+ghost use Rattle.k42_handles.specs.Codes.{to_named};
 ghost use Rattle.k42_c.specs.Exports.{TellsFreed, TellsSwapping};
-ghost use Rattle.k42_c.specs.Going.{Leads};
-ghost use Rattle.k42_c.specs.Handles.{seat_of};
-ghost use Rattle.k42_c.specs.Swapping.{HasGoneOn, HasSwapped};
+ghost use Rattle.k42_handles.specs.Going.{Leads};
+ghost use Rattle.k42_handles.specs.Handles.{seat_of};
+ghost use Rattle.k42_handles.specs.Swapping.{HasGoneOn, HasSwapped};
 ghost use Rattle.k42_kinds.specs.declared.entry.To.TheVariants as To;
 
-use crate::coding::{ARGUMENT, DONE, EMPTY, UNDERWAY, progress_code, refusal_code, to_named};
-use crate::held::K42Pass;
-use crate::holding::{put, take};
-use crate::plain::{K42Swapping, plain_progress};
-use crate::reclaiming::{Freeing, reclaim};
-use crate::refusal::Refusal;
-use crate::swapping::{Progress, go_on, swap};
 use co_system::To;
+use k42_handles::{
+    ARGUMENT, DONE, EMPTY, Freeing, K42Pass, K42Swapping, Progress, Refusal, UNDERWAY, go_on,
+    plain_progress, progress_code, put, reclaim, refusal_code, swap, take, to_named,
+};
 use std::alloc::Global;
 
 /// Writes how far a swap is, and tells its status.

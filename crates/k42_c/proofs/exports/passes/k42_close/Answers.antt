@@ -1,7 +1,7 @@
 use Rattle.std.proofs.Common.{refl}
 use Rattle.std.specs.Prelude.{Err}
-use Rattle.k42_c.specs.Closing.{HasClosed}
-use Rattle.k42_c.specs.declared.refusal.Refusal.TheVariants.{Empty}
+use Rattle.k42_handles.specs.Closing.{HasClosed}
+use Rattle.k42_handles.specs.declared.refusal.Refusal.TheVariants.{Empty}
 use Rattle.k42_c.proofs.EmptyHandles.{kept_empty}
 use Rattle.k42_c.proofs.exports.passes.k42_close.Goals as goal
 

@@ -1,5 +1,5 @@
 use Rattle.std.proofs.Common.{refl}
-use Rattle.k42_c.specs.Closing.{HasDropped}
+use Rattle.k42_handles.specs.Closing.{HasDropped}
 use Rattle.k42_c.specs.Exports.{done_code}
 use Rattle.k42_c.proofs.EmptyHandles.{told_empty}
 use Rattle.k42_c.proofs.exports.passes.k42_drop.Goals as goal

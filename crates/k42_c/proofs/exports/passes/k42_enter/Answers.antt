@@ -1,5 +1,5 @@
 use Rattle.std.proofs.Common.{refl}
-use Rattle.k42_c.specs.Seats.{HasEntered}
+use Rattle.k42_handles.specs.Seats.{HasEntered}
 use Rattle.k42_c.specs.Exports.{done_code}
 use Rattle.k42_c.proofs.EmptyHandles.{told_empty}
 use Rattle.k42_c.proofs.exports.passes.k42_enter.Goals as goal

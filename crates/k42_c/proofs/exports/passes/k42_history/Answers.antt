@@ -1,8 +1,8 @@
 use Rattle.std.proofs.Common.{refl, sym, subst}
 use Rattle.std.specs.Prelude.{Err}
-use Rattle.k42_c.specs.Reading.{HasReadFrom}
-use Rattle.k42_c.specs.declared.refusal.Refusal.TheVariants.{Empty}
-use Rattle.k42_c.specs.declared.seat.Seat.{Seat}
+use Rattle.k42_handles.specs.Reading.{HasReadFrom}
+use Rattle.k42_handles.specs.declared.refusal.Refusal.TheVariants.{Empty}
+use Rattle.k42_handles.specs.declared.seat.Seat.{Seat}
 use Rattle.k42_c.proofs.exports.passes.k42_history.Goals as goal
 
 pub returns-in_default : goal.returns-in_default

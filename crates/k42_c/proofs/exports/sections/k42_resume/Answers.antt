@@ -1,6 +1,6 @@
 use Rattle.std.proofs.Common.{refl}
-use Rattle.k42_c.specs.Codes.{resumed_code}
-use Rattle.k42_c.specs.Parking.{HasResumed}
+use Rattle.k42_handles.specs.Codes.{resumed_code}
+use Rattle.k42_handles.specs.Parking.{HasResumed}
 use Rattle.k42_c.proofs.EmptyHandles.{told_empty}
 use Rattle.k42_c.proofs.exports.sections.k42_resume.Goals as goal
 

@@ -1,8 +1,8 @@
 use Rattle.std.proofs.Common.{◌≡◌, Option, Some, None, rules, refl, sym, subst, ◌∙◌}
 use Rattle.std.specs.Prelude.{Err}
-use Rattle.k42_c.specs.Handles.{seat_of}
-use Rattle.k42_c.specs.Swapping.{HasSwapped}
-use Rattle.k42_c.specs.declared.refusal.Refusal.TheVariants.{Argument, Empty}
+use Rattle.k42_handles.specs.Handles.{seat_of}
+use Rattle.k42_handles.specs.Swapping.{HasSwapped}
+use Rattle.k42_handles.specs.declared.refusal.Refusal.TheVariants.{Argument, Empty}
 use Rattle.k42_kinds.specs.declared.entry.To.{To}
 use Rattle.k42_c.proofs.EmptyHandles.{kept_empty}
 use Rattle.k42_c.proofs.exports.swaps.begun.Goals as goal

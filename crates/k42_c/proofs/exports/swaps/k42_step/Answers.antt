@@ -1,7 +1,7 @@
 use Rattle.std.proofs.Common.{refl}
 use Rattle.std.specs.Prelude.{Err}
-use Rattle.k42_c.specs.Swapping.{HasGoneOn}
-use Rattle.k42_c.specs.declared.refusal.Refusal.TheVariants.{Empty}
+use Rattle.k42_handles.specs.Swapping.{HasGoneOn}
+use Rattle.k42_handles.specs.declared.refusal.Refusal.TheVariants.{Empty}
 use Rattle.k42_c.proofs.EmptyHandles.{kept_empty}
 use Rattle.k42_c.proofs.exports.swaps.k42_step.Goals as goal
 

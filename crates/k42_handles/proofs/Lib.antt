@@ -1,0 +1,10 @@
+pub mod AsBox
+pub mod Cells
+pub mod Gathered
+pub mod GivenBack
+pub mod Missed
+pub mod ReadEntries
+pub mod Reclaimed
+pub mod Started
+pub mod Stepped
+pub mod Swapped
