@@ -62,10 +62,13 @@ pub fn ask_once<L: Clustered, A: Question<L>, R: Wait>(
     ensures unmade { OnErr result (pass.new.view.taker.mine ≡ pass.old.view.taker.mine) }
     ensures worn { (result ≡ Err NoCall.Worn) ↔ (IsAsked L.object system.now.plan.objects object (A.asks question.now) × IsWorn pass.old.view) }
 {
-    match call_once(rt, alloc, system, pass, object, question.op())? {
-        Some(reply) => Ok(Some(question.told(reply))),
-        None => Ok(None),
+    if !system.takes(object, &question.op()) {
+        return Ok(None);
     }
+    system.enter(pass);
+    let told = system.ask(rt, alloc, pass, object, question);
+    system.leave(pass);
+    Ok(Some(told?))
 }
 
 /// Swaps the object to its layout of that number. There is no end, and nothing was done, where there is no such object.

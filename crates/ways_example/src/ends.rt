@@ -1,8 +1,10 @@
 //! How a system of one object begins and ends.
-ghost use Rattle.std.specs.Prelude.{◌≡◌, [], ◌∷◌, IfOk, IfSome};
+ghost use Rattle.std.specs.Prelude.{◌≡◌, [], ◌∷◌, IfOk, IfSome, slice_get};
 ghost use Rattle.k42_board.specs.declared.keep.Keep.TheVariants.{All};
+ghost use Rattle.k42_crews.specs.Once.{HasAskedOnce};
 ghost use Rattle.k42_crews.specs.Ready.{AreFree, callers_of};
 ghost use Rattle.k42_kinds.specs.Legal.{IsLegalHistoryOf};
+ghost use Rattle.ways_example.specs.declared.turns.TheConstants.{OBJECT};
 
 use crate::turns::OBJECT;
 use k42_clustered::Clustered;
@@ -44,6 +46,8 @@ pub(crate) fn ask<L: Clustered, A: Question<L>, R: Wait>(
     requires { AreFree system.now passes.old }
     ensures free { AreFree system.now passes.new }
     ensures callers { callers_of passes.new ≡ callers_of passes.old }
+    ensures told { IfOk result (λ answer. IfSome answer (λ told. IfSome (slice_get passes.old 0) (λ old. IfSome (slice_get passes.new 0) (λ new.
+        HasAskedOnce OBJECT (A.asks question.now) (A.tells question.now) told old.view new.view)))) }
 {
     let Some((pass, _others)) = passes.split_first_mut() else {
         return Ok(None);
