@@ -86,7 +86,7 @@ enum {
 
 /* A handle. It is empty while it is 0. */
 typedef struct {
-    uint64_t opaque[3];
+    uint64_t opaque[2];
 } k42_pass;
 
 /* The kinds of objects, all empty at first. */
