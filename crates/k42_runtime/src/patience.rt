@@ -9,8 +9,9 @@ const ROUNDS: u32 = 200;
 const ROUND_SPINS: u32 = 7;
 
 /// How many spins a caller waits that found a cell held: whoever tries a lock takes its cache line from the caller that
-/// has it. A swap waits for the activity of whoever waits here, so that no wait is longer than the first.
-const SPINS_AT_CELL: u32 = 255;
+/// has it. A swap waits for the activity of whoever waits here: with fewer spins swaps end sooner, and with more a cell
+/// that all call serves them faster.
+const SPINS_AT_CELL: u32 = 105;
 
 /// How many rounds that lasts.
 const ROUNDS_AT_CELL: u32 = SPINS_AT_CELL / ROUND_SPINS;
