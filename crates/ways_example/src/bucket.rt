@@ -69,7 +69,7 @@ fn granted<L: Clustered<State = MortalState<Level>, Op = BucketOp, Reply = Bucke
     Ok(Some((all_tokens(&entries), entries.len())))
 }
 
-/// The same of a bucket of which three threads take tokens, while a fourth has it kept in one way after another. In the end it
+/// The same of a bucket of which four threads take tokens, while a fifth has it kept in one way after another. In the end it
 /// refuses another token.
 pub(crate) fn run_bucket<R: Threads + Wait + Sync>(
     rt: &R,

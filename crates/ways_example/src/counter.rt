@@ -17,7 +17,7 @@ use std::alloc::Global;
 use std::sync::Wait;
 use std::thread::Threads;
 
-/// What a counter is in the end to which three threads add, while a fourth has it kept in one way after another, and how
+/// What a counter is in the end to which four threads add, while a fifth has it kept in one way after another, and how
 /// many entries the history has.
 pub(crate) fn run_counter<R: Threads + Wait + Sync>(
     rt: &R,

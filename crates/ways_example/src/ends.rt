@@ -15,7 +15,7 @@ use k42_runtime::{Keep, Pass, Plan, Question, System};
 use std::alloc::Global;
 use std::sync::Wait;
 
-/// A system of an object that starts in this layout, and four passes on four of eight processors. There is none where no system has
+/// A system of an object that starts in this layout, and five passes on five of eight processors. There is none where no system has
 /// such an object.
 pub(crate) fn begin<L: Clustered>(
     alloc: Global,
@@ -27,7 +27,7 @@ pub(crate) fn begin<L: Clustered>(
 {
     let mut objects = Vec::new(alloc);
     objects.push(layout)?;
-    let processors = vec![in alloc; 0u32, 2u32, 5u32, 7u32]?;
+    let processors = vec![in alloc; 0u32, 2u32, 3u32, 5u32, 7u32]?;
     let Ok(plan) = Plan::new(8, objects, processors, Keep::All) else {
         return Ok(None);
     };

@@ -1,4 +1,4 @@
-//! Objects of one's own: three threads call a bucket, and then a counter, while a fourth has it kept in one way after
+//! Objects of one's own: four threads call a bucket, and then a counter, while a fifth has it kept in one way after
 //! another.
 #![tactic(auto)]
 
@@ -20,8 +20,8 @@ use std::process::ExitCode;
 use std::sync::Wait;
 use std::thread::Threads;
 
-/// How many of 150 tokens a bucket of 100 has given and how many entries its history has, and the same of the value of a
-/// counter to which 3,000 were added.
+/// How many of 200 tokens a bucket of 100 has given and how many entries its history has, and the same of the value of a
+/// counter to which 4,000 were added.
 fn run<R: Threads + Wait + Sync>(
     rt: &R,
     alloc: Global,
