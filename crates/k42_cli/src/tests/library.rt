@@ -1,4 +1,4 @@
-//! How a program of one's own judges a record; README shows it.
+//! How a program of one's own judges a record; `docs/USING.md` shows it.
 ghost use Rattle.std.specs.Prelude.{◌<◌, ◌-◌, ◌^◌, Some};
 
 use k42_io::{Failed, ReadEnd, Source, read_all};
