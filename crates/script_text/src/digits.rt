@@ -9,6 +9,11 @@ use k42_memory::Memory;
 pub fn put_digits(out: &mut Vec<u8>, number: u64) -> Result<(), Memory>
     ensures { OnOk result (out.new.items ≡ out.old.items ++ decimal number) }
 {
+    // A single digit needs no buffer, and most numbers of a record but places and lines have one.
+    if number < 10 {
+        out.push(b'0' + number as u8)?;
+        return Ok(());
+    }
     out.extend_from_slice(Buffer::new().format(number).as_bytes())?;
     Ok(())
 }
