@@ -1,9 +1,10 @@
 //! How a system of one object begins and ends.
-ghost use Rattle.std.specs.Prelude.{◌≡◌, [], ◌∷◌, IfOk, IfSome, slice_get};
+ghost use Rattle.std.specs.Prelude.{◌≡◌, ◌<◌, ◌↔◌, [], ◌∷◌, length, IfOk, IfSome, IsSome, slice_get};
 ghost use Rattle.k42_board.specs.declared.keep.Keep.TheVariants.{All};
 ghost use Rattle.k42_crews.specs.Once.{HasAskedOnce};
 ghost use Rattle.k42_crews.specs.Ready.{AreFree, callers_of};
 ghost use Rattle.k42_kinds.specs.Legal.{IsLegalHistoryOf};
+ghost use Rattle.k42_runtime.specs.Calls.{IsAsked};
 ghost use Rattle.ways_example.specs.declared.turns.TheConstants.{OBJECT};
 
 use crate::turns::OBJECT;
@@ -35,7 +36,7 @@ pub(crate) fn begin<L: Clustered>(
     Ok(Some((system, passes)))
 }
 
-/// What the first pass is told.
+/// What the first pass is told. There is none where there is no pass, or the object does not take the operation.
 pub(crate) fn ask<L: Clustered, A: Question<L>, R: Wait>(
     rt: &R,
     alloc: Global,
@@ -46,6 +47,7 @@ pub(crate) fn ask<L: Clustered, A: Question<L>, R: Wait>(
     requires { AreFree system.now passes.old }
     ensures free { AreFree system.now passes.new }
     ensures callers { callers_of passes.new ≡ callers_of passes.old }
+    ensures made { IfOk result (λ answer. IsSome answer ↔ ((0 < length passes.old) × IsAsked L.object system.now.plan.objects OBJECT (A.asks question.now))) }
     ensures told { IfOk result (λ answer. IfSome answer (λ told. IfSome (slice_get passes.old 0) (λ old. IfSome (slice_get passes.new 0) (λ new.
         HasAskedOnce OBJECT (A.asks question.now) (A.tells question.now) told old.view new.view)))) }
 {
